@@ -1,0 +1,10 @@
+pub mod Name
+pub mod Sums
+pub mod Grid
+pub mod Groups
+pub mod Plans
+pub mod Words
+pub mod Rates
+pub mod Solutions
+pub mod Measures
+pub mod Enclosures

@@ -1,1 +1,27 @@
+//! The hypercube queueing model (Larson 1974; Larson and Odoni, Urban Operations Research, chapter 5):
+//! plain types of a plan and of its measures, and the definitions and laws on which all proofs stand.
 #![tactic(auto)]
+
+mod enclosure_list;
+mod grid;
+mod kinds;
+mod name;
+mod name_list;
+mod parts;
+mod plans;
+mod preference;
+
+pub use enclosure_list::Enclosures;
+pub use grid::Table;
+pub use kinds::{Enclosed, Found, Line, Measure, Rule, scale};
+pub use name::{MOST_NAME_BYTES, Name, NameEnd};
+pub use name_list::Names;
+pub use parts::{Atom, Atoms, PlanParts, Unit, Units};
+pub use plans::Plan;
+pub use preference::Lists;
+
+/// The most units that a plan has.
+pub const MOST_UNITS: usize = 12;
+
+/// The most atoms that a plan has.
+pub const MOST_ATOMS: usize = 200;

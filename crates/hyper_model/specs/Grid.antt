@@ -1,0 +1,24 @@
+-- what contracts see of a table of whole numbers: its rows one after the other
+use Rattle.std.specs.Prelude.{◌≡◌, ◌≢◌, ℕ, ◌+◌, ◌*◌, ◌<◌, ◌≤◌, ◌⊎◌, List, length, slice_index_or}
+
+pub record Grid : Type 0 where
+  pub rows : ℕ
+  pub cols : ℕ
+  pub cells : List ℕ
+
+-- at most 200 rows and 200 columns, and a cell for each place
+pub record IsSized (grid : Grid) : Type 0 where
+  pub few_rows : grid.rows ≤ 200
+  pub few_cols : grid.cols ≤ 200
+  pub one_each : length grid.cells ≡ grid.rows * grid.cols
+
+-- the cell in row r and column c
+abbrev pub cell : Grid → ℕ → ℕ → ℕ
+cell grid r c = slice_index_or grid.cells (r * grid.cols + c) 0
+
+-- the cell (r, c) has this value, and all else is as it was
+pub record SetsCell (old new : Grid) (r c value : ℕ) : Type 0 where
+  pub same_rows : new.rows ≡ old.rows
+  pub same_cols : new.cols ≡ old.cols
+  pub there : cell new r c ≡ value
+  pub others : (i j : ℕ) → i < old.rows → j < old.cols → (i ≢ r) ⊎ (j ≢ c) → cell new i j ≡ cell old i j

@@ -1,0 +1,6 @@
+-- the sum of f 0, f 1, .., f (n - 1)
+use Rattle.std.specs.Prelude.{ℕ, zero, suc, ◌+◌}
+
+abbrev pub sum_below : ℕ → (ℕ → ℕ) → ℕ
+sum_below zero f = 0
+sum_below (suc n) f = sum_below n f + f n

@@ -1,0 +1,68 @@
+ghost use Rattle.std.specs.Prelude.{◌≡◌, ◌≢◌, ◌+◌, ◌*◌, ◌<◌, ◌≤◌, ◌⊎◌, ℕ, length, vec_len, IfOk};
+ghost use Rattle.hyper_model.specs.Grid.{Grid, cell, IsSized, SetsCell};
+
+use std::alloc::{AllocError, Global};
+use std::marker::Model;
+
+/// A table of whole numbers, of at most 200 rows and 200 columns.
+#[derive(Debug, Drop)]
+pub struct Table {
+    rows: usize,
+    cols: usize,
+    cells: Vec<u32>,
+}
+
+impl Model for Table {
+    ghost Value = { Grid };
+
+    ghost view = { λ a. record { rows = a.rows; cols = a.cols; cells = a.cells.items } };
+
+    ghost invariant = { λ a. IsSized (record { rows = a.rows; cols = a.cols; cells = a.cells.items }) };
+}
+
+impl Table {
+    /// A table of zeros.
+    pub fn of(alloc: Global, rows: usize, cols: usize) -> Result<Table, AllocError>
+        requires rows { rows ≤ 200 }
+        requires cols { cols ≤ 200 }
+        ensures size { IfOk result (λ table. (table.rows ≡ rows) × (table.cols ≡ cols)) }
+        ensures zeros { IfOk result (λ table. (r c : ℕ) → r < rows → c < cols → cell table r c ≡ 0) }
+    {
+        let cells = vec![in alloc; 0; rows * cols]?;
+        Ok(Table { rows, cols, cells })
+    }
+
+    /// How many rows there are.
+    pub fn rows(&self) -> usize
+        ensures rows { result ≡ self.now.rows }
+        ensures most { result ≤ 200 }
+    {
+        self.rows
+    }
+
+    /// How many columns there are.
+    pub fn cols(&self) -> usize
+        ensures cols { result ≡ self.now.cols }
+        ensures most { result ≤ 200 }
+    {
+        self.cols
+    }
+
+    /// The cell in this row and column, both counted from 0.
+    pub fn get(&self, r: usize, c: usize) -> u32
+        requires row { r < self.now.rows }
+        requires col { c < self.now.cols }
+        ensures { result ≡ cell self.now r c }
+    {
+        self.cells[r * self.cols + c]
+    }
+
+    /// Writes one cell, and leaves all others.
+    pub fn set(&mut self, r: usize, c: usize, value: u32)
+        requires row { r < self.old.rows }
+        requires col { c < self.old.cols }
+        ensures { SetsCell self.old self.new r c value }
+    {
+        self.cells[r * self.cols + c] = value;
+    }
+}

@@ -1,0 +1,140 @@
+ghost use Rattle.std.specs.Prelude.{◌≡◌, ◌+◌, ◌<◌, ◌≤◌, ◌↔◌, ℕ, List, [], ◌∷◌, ◌++◌, true, false, length, vec_len, vec_capacity, IsTrue, IfOk, IfSome, IfNone, slice_get};
+ghost use Rattle.std.specs.List.{list_all};
+ghost use Rattle.std.specs.Result.{IsErrOf};
+ghost use Rattle.std.specs.String.{string_bytes};
+ghost use Rattle.hyper_model.specs.Name.{is_name, may_stand, is_short, NameList};
+
+use std::alloc::{AllocError, Global};
+use std::fmt;
+use std::hash::{Hash, Hasher};
+use std::marker::Model;
+
+/// The most bytes that a name has.
+pub const MOST_NAME_BYTES: usize = 32;
+
+/// ASCII's control code behind the printed characters.
+const DELETE: u8 = 127;
+
+/// Why bytes gave no [`Name`].
+#[derive(Clone, Copy, Debug, PartialEq, Eq)]
+pub enum NameEnd {
+    /// The bytes are no name.
+    BadName,
+    /// They are one, and there was no memory for it.
+    NoMemory,
+}
+
+/// The name of a unit, of an atom or of a text.
+///
+/// It has 1 to 32 bytes of UTF-8 without control codes, commas and double quotes, so that a
+/// record of comma-separated values can hold it as it is. Letters differ by case.
+#[derive(Debug, Drop)]
+pub struct Name {
+    text: String,
+}
+
+impl Model for Name {
+    ghost Value = { List ℕ };
+
+    ghost view = { λ a. string_bytes a.text };
+
+    ghost invariant = { λ a. is_name (string_bytes a.text) ≡ true };
+}
+
+impl Name {
+    /// The name that these bytes are.
+    pub fn of(alloc: Global, bytes: &[u8]) -> Result<Name, NameEnd>
+        ensures name { IfOk result (λ name. name ≡ bytes.now) }
+        ensures is_name { IfOk result (λ _. is_name bytes.now ≡ true) }
+        ensures bad_name { IsErrOf result NameEnd.BadName → is_name bytes.now ≡ false }
+        ensures no_memory { IsErrOf result NameEnd.NoMemory → is_name bytes.now ≡ true }
+    {
+        let Some(text) = name_text(bytes) else {
+            return Err(NameEnd::BadName)
+        };
+        match String::from_str(alloc, text) {
+            Ok(text) => Ok(Name { text }),
+            Err(_) => Err(NameEnd::NoMemory),
+        }
+    }
+
+    /// Its text.
+    pub fn text(&self) -> &str
+        ensures text { result.now ≡ self.now }
+        ensures is_name { is_name result.now ≡ true }
+    {
+        self.text.as_str()
+    }
+}
+
+fn name_text(bytes: &[u8]) -> Option<&str>
+    ensures some { IfSome result (λ text. (text.now ≡ bytes.now) × (is_name bytes.now ≡ true)) }
+    ensures none { IfNone result (is_name bytes.now ≡ false) }
+{
+    if !has_name_length(bytes) || !has_name_bytes(bytes) {
+        return None;
+    }
+    match str::from_utf8(bytes) {
+        Ok(text) => Some(text),
+        Err(_) => None,
+    }
+}
+
+fn has_name_length(bytes: &[u8]) -> bool
+    ensures { result ≡ is_short bytes.now }
+{
+    !bytes.is_empty() && bytes.len() <= MOST_NAME_BYTES
+}
+
+fn has_name_bytes(bytes: &[u8]) -> bool
+    ensures { result ≡ list_all may_stand bytes.now }
+{
+    bytes.iter().all(|byte| is_name_byte(*byte))
+}
+
+fn is_name_byte(byte: u8) -> bool
+    ensures { result ≡ may_stand byte }
+{
+    byte >= b' ' && byte != DELETE && byte != b',' && byte != b'"'
+}
+
+impl PartialEq for Name {
+    ghost use Rattle.std.specs.Str.{bytes_eq};
+    ghost use Rattle.std.specs.Cmp.{partial_equiv_from_equiv};
+    ghost use Rattle.std.proofs.lemmas.Cmp.{nat_list_eq_equiv};
+
+    ghost eq = { λ a b. bytes_eq a b };
+
+    ghost laws = { partial_equiv_from_equiv nat_list_eq_equiv };
+
+    fn eq(&self, other: &Name) -> bool {
+        self.text() == other.text()
+    }
+}
+
+impl Eq for Name {
+    ghost use Rattle.std.proofs.lemmas.Cmp.{nat_list_eq_equiv};
+
+    ghost laws = { nat_list_eq_equiv };
+}
+
+impl Hash for Name {
+    ghost use Rattle.std.specs.Hash as fed;
+    ghost use Rattle.std.specs.Cmp.Rules.{hashing};
+    ghost use Rattle.std.proofs.Common.{rules};
+
+    ghost hash_input = { λ a. fed.str a };
+
+    ghost respects_eq = { Prim.search (hashing, rules) };
+
+    fn hash<H: Hasher>(&self, state: &mut H) {
+        self.text().hash(state);
+    }
+}
+
+impl fmt::Display for Name {
+    fn fmt<W: fmt::Write>(&self, f: &mut fmt::Formatter<W>) -> fmt::Result {
+        f.write_str(self.text())
+    }
+}
+

@@ -1,0 +1,109 @@
+ghost use Rattle.std.specs.Prelude.{◌≡◌, ◌<◌, ◌≤◌, ℕ, IfOk, length, vec_len, All};
+
+use std::alloc::{AllocError, Global};
+use std::marker::Model;
+
+/// The list of one atom: a unit at each place, and whether a group begins there.
+#[derive(Clone, Copy, Debug)]
+pub(crate) struct ListRow {
+    pub(crate) members: [u8; 12],
+    pub(crate) begins: [bool; 12],
+}
+
+/// A preference list of units for each atom, cut into groups.
+///
+/// A call goes to one of the free units of the first group that has one, each with equal probability.
+/// A list whose groups have one unit each is a plain order of the units.
+#[derive(Debug, Drop)]
+pub struct Lists {
+    units: usize,
+    rows: Vec<ListRow>,
+}
+
+impl Model for Lists {
+    ghost use Rattle.std.specs.Prelude.{ℕ, ◌≡◌, ◌≤◌, length, All};
+    ghost use Rattle.hyper_model.specs.Groups.{GroupLists};
+
+    ghost Value = { GroupLists };
+
+    ghost view = { λ a. record { units = a.units; rows = a.rows.items } };
+
+    ghost invariant = { λ a. (a.units ≤ 12) × (length a.rows.items ≤ 200) };
+}
+
+impl Lists {
+    ghost use Rattle.std.specs.Prelude.{◌≡◌, ◌<◌, ◌≤◌, ℕ, true, IfOk, length};
+    ghost use Rattle.hyper_model.specs.Groups.{member_at, begins_at, SetsMember, JoinsGroup};
+
+    /// Lists with the unit 0 at every place, each in a group of its own.
+    pub fn of(alloc: Global, atoms: usize, units: usize) -> Result<Lists, AllocError>
+        requires atoms { atoms ≤ 200 }
+        requires units { units ≤ 12 }
+        ensures size { IfOk result (λ lists. (length lists.rows ≡ atoms) × (lists.units ≡ units)) }
+        ensures zeros { IfOk result (λ lists. (j k : ℕ) → j < atoms → k < units → member_at lists j k ≡ 0) }
+        ensures single { IfOk result (λ lists. (j k : ℕ) → j < atoms → k < units → begins_at lists j k ≡ true) }
+    {
+        let row = ListRow {
+            members: [0; 12],
+            begins: [true; 12],
+        };
+        let rows = vec![in alloc; row; atoms]?;
+        Ok(Lists { units, rows })
+    }
+
+    /// How many atoms have a list.
+    pub fn atoms(&self) -> usize
+        ensures atoms { result ≡ length self.now.rows }
+        ensures most { result ≤ 200 }
+    {
+        self.rows.len()
+    }
+
+    /// How many units each list has.
+    pub fn units(&self) -> usize
+        ensures units { result ≡ self.now.units }
+        ensures most { result ≤ 12 }
+    {
+        self.units
+    }
+
+    /// The unit at this place of the atom's list, all counted from 0.
+    pub fn unit(&self, atom: usize, place: usize) -> u8
+        requires atom { atom < length self.now.rows }
+        requires place { place < self.now.units }
+        ensures { result ≡ member_at self.now atom place }
+    {
+        self.rows[atom].members[place]
+    }
+
+    /// Whether a group begins at this place. One always begins at the first.
+    pub fn begins(&self, atom: usize, place: usize) -> bool
+        requires atom { atom < length self.now.rows }
+        requires place { place < self.now.units }
+        ensures { result ≡ begins_at self.now atom place }
+    {
+        self.rows[atom].begins[place]
+    }
+
+    /// Puts a unit at this place, and leaves all else.
+    pub fn set(&mut self, atom: usize, place: usize, unit: u8)
+        requires atom { atom < length self.old.rows }
+        requires place { place < self.old.units }
+        ensures { SetsMember self.old self.new atom place unit }
+    {
+        let row = &mut self.rows[atom];
+        row.members[place] = unit;
+    }
+
+    /// Puts this place, which is not the first, into the group of the place before it, and leaves all
+    /// else.
+    pub fn join(&mut self, atom: usize, place: usize)
+        requires atom { atom < length self.old.rows }
+        requires place { place < self.old.units }
+        requires later { 1 ≤ place }
+        ensures { JoinsGroup self.old self.new atom place }
+    {
+        let row = &mut self.rows[atom];
+        row.begins[place] = false;
+    }
+}
