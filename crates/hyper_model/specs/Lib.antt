@@ -2,6 +2,7 @@ pub mod Name
 pub mod Sums
 pub mod Grid
 pub mod Groups
+pub mod ListRows
 pub mod Plans
 pub mod Words
 pub mod Rates

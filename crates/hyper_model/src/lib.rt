@@ -8,7 +8,7 @@ mod kinds;
 mod name;
 mod name_list;
 mod parts;
-mod plans;
+//mod plans;
 mod preference;
 
 pub use enclosure_list::Enclosures;
@@ -17,7 +17,7 @@ pub use kinds::{Enclosed, Found, Line, Measure, Rule, scale};
 pub use name::{MOST_NAME_BYTES, Name, NameEnd};
 pub use name_list::Names;
 pub use parts::{Atom, Atoms, PlanParts, Unit, Units};
-pub use plans::Plan;
+//pub use plans::Plan;
 pub use preference::Lists;
 
 /// The most units that a plan has.
