@@ -1,1 +1,3 @@
+-- lemmas, each file on one subject
 pub mod ListRows
+pub mod NameText

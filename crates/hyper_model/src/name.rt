@@ -2,7 +2,7 @@ ghost use Rattle.std.specs.Prelude.{◌≡◌, ◌+◌, ◌<◌, ◌≤◌, ◌�
 ghost use Rattle.std.specs.List.{list_all};
 ghost use Rattle.std.specs.Result.{IsErrOf};
 ghost use Rattle.std.specs.String.{string_bytes};
-ghost use Rattle.hyper_model.specs.Name.{is_name, may_stand, is_short, NameList};
+ghost use Rattle.hyper_model.specs.Name.{is_name, may_stand, is_short};
 
 use std::alloc::{AllocError, Global};
 use std::fmt;

@@ -74,7 +74,7 @@ impl Lists {
         self.rows[atom].members[place]
     }
 
-    /// Whether a group begins at this place. One always begins at the first.
+    /// Whether a group begins at this place: so at each place until it is joined.
     pub fn begins(&self, atom: usize, place: usize) -> bool
         requires atom { atom < length self.now.rows }
         requires place { place < self.now.units }
