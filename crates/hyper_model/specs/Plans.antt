@@ -137,6 +137,6 @@ pub record IsAccepted (p : PlanParts) : Type 0 where
 -- an accepted plan with its sums of rates and its factor
 pub record IsSummed (p : PlanParts) (calls service factor : ℕ) : Type 0 where
   pub accepted : IsAccepted p
-  pub calls : calls ≡ all_calls p
-  pub service : service ≡ all_service p
-  pub factor : factor ≡ split p
+  pub same_calls : calls ≡ all_calls p
+  pub same_service : service ≡ all_service p
+  pub same_factor : factor ≡ split p

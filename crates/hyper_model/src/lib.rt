@@ -2,12 +2,14 @@
 //! plain types of a plan and of its measures, and the definitions and laws on which all proofs stand.
 #![tactic(auto)]
 
+mod acceptance;
 mod enclosure_list;
 mod grid;
 mod kinds;
 mod name;
 mod name_list;
 mod parts;
+mod plan_sums;
 mod plans;
 mod preference;
 

@@ -2,6 +2,7 @@ ghost use Rattle.std.specs.Prelude.{◌≡◌, ◌<◌, ◌≤◌, ℕ, MatchRes
 ghost use Rattle.hyper_model.specs.Plans.{units, atoms, unit_at, atom_at, all_calls, all_service, located, travel, split, IsAccepted};
 
 use crate::acceptance::is_accepted;
+use crate::plan_sums::{calls_sum, service_sum, split_of};
 use crate::{Atom, Line, Lists, PlanParts, Rule, Table, Unit};
 
 use std::marker::Model;
@@ -38,8 +39,8 @@ impl Plan {
         if !is_accepted(&parts) {
             return Err(parts);
         }
-        let calls = calls_of(&parts);
-        let service = service_of(&parts);
+        let calls = calls_sum(&parts) as u32;
+        let service = service_sum(&parts) as u32;
         let split = split_of(&parts);
         Ok(Plan {
             parts,

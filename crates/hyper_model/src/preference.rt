@@ -32,8 +32,8 @@ impl Model for Lists {
 }
 
 impl Lists {
-    ghost use Rattle.std.specs.Prelude.{◌≡◌, ◌<◌, ◌≤◌, ℕ, true, IfOk, length};
-    ghost use Rattle.hyper_model.specs.Groups.{member_at, begins_at, SetsMember, JoinsGroup};
+    ghost use Rattle.std.specs.Prelude.{◌≡◌, ◌-◌, ◌<◌, ◌≤◌, ℕ, true, IfOk, length, take, drop};
+    ghost use Rattle.hyper_model.specs.Groups.{row_of, list_of, member_at, begins_at, SetsMember, JoinsGroup};
 
     /// Lists with the unit 0 at every place, each in a group of its own.
     pub fn of(alloc: Global, atoms: usize, units: usize) -> Result<Lists, AllocError>
@@ -83,6 +83,25 @@ impl Lists {
         ensures { result ≡ begins_at self.now atom place }
     {
         self.rows[atom].begins[place]
+    }
+
+    /// The units of the atom's list, in order.
+    pub(crate) fn list(&self, atom: usize) -> &[u8]
+        requires { atom < length self.now.rows }
+        ensures units { result.now ≡ list_of self.now atom }
+        ensures len { length (list_of self.now atom) ≡ self.now.units }
+    {
+        let row = &self.rows[atom];
+        &row.members[..self.units]
+    }
+
+    /// Of each place of the atom's list but the first, whether a group begins there.
+    pub(crate) fn later_begins(&self, atom: usize) -> &[bool]
+        requires { atom < length self.now.rows }
+        ensures { result.now ≡ take (self.now.units - 1) (drop 1 (row_of self.now atom).begins) }
+    {
+        let row = &self.rows[atom];
+        if self.units == 0 { &row.begins[..0] } else { &row.begins[1..self.units] }
     }
 
     /// Puts a unit at this place, and leaves all else.
