@@ -58,7 +58,6 @@ impl Table {
     }
 
     /// Writes one cell, and leaves all others.
-    #[tactic(auto, using(crate::proofs::Grids::grid_tools))]
     pub fn set(&mut self, r: usize, c: usize, value: u32)
         requires row { r < self.old.rows }
         requires col { c < self.old.cols }

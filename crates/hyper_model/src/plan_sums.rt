@@ -1,4 +1,5 @@
 ghost use Rattle.std.specs.Prelude.{◌≡◌, ◌<◌, length};
+ghost use Rattle.std.specs.List.{list_all};
 ghost use Rattle.hyper_model.specs.Groups.{groups_in};
 ghost use Rattle.hyper_model.specs.Plans.{all_calls, all_service, are_single, split, IsAccepted};
 
@@ -48,5 +49,11 @@ fn is_single(lists: &Lists, atom: usize) -> bool
     ensures { result ≡ are_single (groups_in lists.now atom) }
 {
     let _list = lists.list(atom);
-    lists.later_begins(atom).iter().all(|begin| *begin)
+    all_begin(lists.later_begins(atom))
+}
+
+fn all_begin(begins: &[bool]) -> bool
+    ensures { result ≡ list_all (λ begin. begin) begins.now }
+{
+    begins.iter().all(|begin| *begin)
 }
