@@ -1,3 +1,6 @@
 -- lemmas, each file on one subject
+pub mod Grids
+pub mod Grouping
 pub mod ListRows
 pub mod NameText
+pub mod PlanSums

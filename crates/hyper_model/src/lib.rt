@@ -2,13 +2,15 @@
 //! plain types of a plan and of its measures, and the definitions and laws on which all proofs stand.
 #![tactic(auto)]
 
+mod acceptance;
 mod enclosure_list;
 mod grid;
 mod kinds;
 mod name;
 mod name_list;
 mod parts;
-//mod plans;
+mod plan_sums;
+mod plans;
 mod preference;
 
 pub use enclosure_list::Enclosures;
@@ -17,7 +19,7 @@ pub use kinds::{Enclosed, Found, Line, Measure, Rule, scale};
 pub use name::{MOST_NAME_BYTES, Name, NameEnd};
 pub use name_list::Names;
 pub use parts::{Atom, Atoms, PlanParts, Unit, Units};
-//pub use plans::Plan;
+pub use plans::Plan;
 pub use preference::Lists;
 
 /// The most units that a plan has.

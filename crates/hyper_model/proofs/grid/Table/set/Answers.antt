@@ -1,0 +1,10 @@
+use Rattle.std.proofs.Common.{◌<◌}
+use Rattle.hyper_model.proofs.Grids.{sets_cell}
+use Rattle.hyper_model.proofs.grid.Table.set.Goals as goal
+
+pub returns : goal.returns
+returns c =
+    let row : c.args.r < c.self.inside.rows = rw c.self.view_is c.requires.row in
+    let col : c.args.c < c.self.inside.cols = rw c.self.view_is c.requires.col in
+    rw (← c.self.view_is)
+    (sets_cell c.self.inside.rows c.self.inside.cols c.args.r c.args.c c.args.value c.self.inside.cells.items row col c.self.invariant.one_each)
