@@ -11,6 +11,10 @@ pub record WeightList : Type 0 where
 abbrev pub ends_at : List Ends → ℕ → Ends
 ends_at items i = slice_index_or items i (between 0 0)
 
+-- what each weight of a list keeps
+abbrev pub IsWeight : Ends → Type 0
+IsWeight w = (w.lo ≤ w.hi) × (w.hi ≤ 2 ^ 52)
+
 -- no smaller power of two brings the high end to at most 2 ^ 52
 pub record IsLeastShift (high power : ℕ) : Type 0 where
   pub fits : div_ceil high (2 ^ power) ≤ 2 ^ 52

@@ -1,6 +1,6 @@
 ghost use Rattle.std.specs.Prelude.{◌≡◌, ℕ, ◌+◌, ◌-◌, ◌*◌, ◌^◌, ◌<◌, ◌≤◌, All, List, [], ◌∷◌, ◌++◌, IfOk, length, map, vec_capacity, vec_len};
-ghost use Rattle.fixed_interval.specs.Ends.{Ends, shifted_ends};
-ghost use Rattle.fixed_interval.specs.WeightList.{EnclosesAll, IsLeastShift, PushesShifted, WeightList, ends_at};
+ghost use Rattle.fixed_interval.specs.Ends.{shifted_ends};
+ghost use Rattle.fixed_interval.specs.WeightList.{EnclosesAll, IsLeastShift, IsWeight, PushesShifted, WeightList, ends_at};
 
 use crate::iv::Iv;
 use crate::wide::Wide;
@@ -21,7 +21,7 @@ impl Model for Weights {
 
     ghost view = { λ a. record { items = a.items.items; spare = vec_capacity a.items - vec_len a.items } };
 
-    ghost invariant = { λ a. All (λ (w : Ends). w.hi ≤ 2 ^ 52) a.items.items × (vec_capacity a.items ≤ 4097) };
+    ghost invariant = { λ a. All IsWeight a.items.items × (vec_capacity a.items ≤ 4097) };
 }
 
 impl Weights {

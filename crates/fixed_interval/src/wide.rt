@@ -140,7 +140,7 @@ impl Wide {
     /// wherever that quotient is known to be at most `cap`.
     pub fn over(self, d: Wide, cap: u128) -> Self
         ensures ends { result ≡ quotient_ends self d cap }
-        ensures encloses { (x y den : ℕ) → Encloses self x den → Encloses d y den → 0 < y
+        ensures encloses { (x y den : ℕ) → Encloses self x den → Encloses d y den
             → x ≤ cap * y → Encloses result x y }
         ensures ordered { result.lo ≤ result.hi }
         ensures capped { result.hi ≤ cap }
