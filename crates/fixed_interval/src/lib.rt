@@ -10,6 +10,8 @@
 #![tactic(auto)]
 
 mod iv;
+#[cfg(test)]
+mod tests;
 mod weights;
 mod wide;
 
