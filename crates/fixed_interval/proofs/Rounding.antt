@@ -34,6 +34,26 @@ pub div_ceil-positive : (x k : ℕ) → 0 < k → 0 < x → 0 < div_ceil x k
 div_ceil-positive x k some above =
     factor-positive 0 k (div_ceil x k) (omega (arith, (div_ceil_times x k some).0))
 
+-- Rounding up stays below what the whole stays below.
+pub div_ceil-le : (x k n : ℕ) → 0 < k → x ≤ n * k → div_ceil x k ≤ n
+div_ceil-le x k n some le =
+    let less : div_ceil x k * k < (n + 1) * k = omega (arith, (div_ceil_times x k some).1, le) in
+    let below : div_ceil x k < n + 1 = lt_of_mul-lt-mul_right k less in
+    omega arith
+
+-- Two quotients by one number, the first rounded down and the second up, keep the order of cross products.
+pub rounded-cross : (k l h a b : ℕ) → 0 < k → l * a ≤ h * b → l / k * a ≤ div_ceil h k * b
+rounded-cross k l h a b some cross =
+    let inner : l / k * k * a ≤ l * a = mul-le-mul_right a (div-mul-le_self l k) in
+    let outer : h * b ≤ div_ceil h k * k * b = mul-le-mul_right b ((div_ceil_times h k some).0) in
+    let whole : l / k * a * k ≤ div_ceil h k * b * k = omega (arith, inner, outer, cross) in
+    le_of_mul-le-mul_right whole some
+
+pub rounded-ordered : (k l h : ℕ) → 0 < k → l ≤ h → l / k ≤ div_ceil h k
+rounded-ordered k l h some le =
+    let cross = rounded-cross k l h 1 1 some (omega arith) in
+    omega (arith, cross)
+
 -- Rounding up by an addition before the division.
 pub div_ceil-by_sum : (x k : ℕ) → 0 < k → (x + (k - 1)) / k ≡ div_ceil x k
 div_ceil-by_sum x k some =
@@ -176,19 +196,6 @@ share_high u l h d x y (suc s) is high low =
     let step = share_high_step q (u - q) l h d x y (rw above ((div_ceil_times (u * h) (h + l) some).0)) high low in
     rw (split_le q u le) at step
 
-share_ordered_at : (u a b c d s : ℕ) → a + d ≡ s → a ≤ b → c ≤ d → u * a / (a + d) ≤ div_ceil (u * b) (b + c)
-share_ordered_at u a b c d zero is le rest = rw (is, div-zero (u * a)) (omega arith)
-share_ordered_at u a b c d (suc s) is le rest =
-    let low : u * a / (a + d) * (a + d) ≤ u * a = share_low u a d 1 a d (omega arith) (omega arith) in
-    let high : u * a ≤ div_ceil (u * b) (b + c) * (a + d) = share_high u c b 1 a d _ refl (omega arith) (omega arith) in
-    let whole : u * a / (a + d) * (a + d) ≤ div_ceil (u * b) (b + c) * (a + d) = omega (arith, low, high) in
-    let some : 0 < a + d = omega arith in
-    le_of_mul-le-mul_right whole some
-
--- The ends of a share are in order.
-pub share-ordered : (u a b c d : ℕ) → a ≤ b → c ≤ d → u * a / (a + d) ≤ div_ceil (u * b) (b + c)
-share-ordered u a b c d le rest = share_ordered_at u a b c d _ refl le rest
-
 at_most_unit : (u h l s : ℕ) → h + l ≡ s → div_ceil (u * h) (h + l) ≤ u
 at_most_unit u h l zero is =
     let none : h ≡ 0 = omega arith in
@@ -230,3 +237,30 @@ encloses_quotient s t r cap is x y den es et fits = rw is (record {
   low = quotient_low s.lo t.hi cap den x y es.low et.high;
   high = quotient_high _ s.hi t.lo cap den x y refl es.high et.low fits;
 })
+
+-- The ends of each answer are in order where those of the arguments are.
+pub plus_capped-ordered : (s t : Ends) (cap : ℕ) → s.lo ≤ s.hi → t.lo ≤ t.hi
+    → (plus_capped_ends s t cap).lo ≤ (plus_capped_ends s t cap).hi
+plus_capped-ordered s t cap es et = omega arith
+
+pub times_part-ordered : (s t : Ends) → s.lo ≤ s.hi → t.lo ≤ t.hi → (times_part_ends s t).lo ≤ (times_part_ends s t).hi
+times_part-ordered s t es et =
+    rounded-ordered (2 ^ 62) (s.lo * t.lo) (s.hi * t.hi) (omega arith) (mul-le s.lo t.lo s.hi t.hi es et)
+
+-- A product with a part of the whole is at most what it is a part of.
+pub times_part-in_range : (s t : Ends) → t.hi ≤ 2 ^ 62 → (times_part_ends s t).hi ≤ s.hi
+times_part-in_range s t part =
+    div_ceil-le (s.hi * t.hi) (2 ^ 62) s.hi (omega arith) (mul-le-mul_left s.hi part)
+
+share_ordered_at : (u a b c d s : ℕ) → a + d ≡ s → a ≤ b → c ≤ d → u * a / (a + d) ≤ div_ceil (u * b) (b + c)
+share_ordered_at u a b c d zero is le rest = rw (is, div-zero (u * a)) (omega arith)
+share_ordered_at u a b c d (suc s) is le rest =
+    let low : u * a / (a + d) * (a + d) ≤ u * a = share_low u a d 1 a d (omega arith) (omega arith) in
+    let high : u * a ≤ div_ceil (u * b) (b + c) * (a + d) = share_high u c b 1 a d _ refl (omega arith) (omega arith) in
+    let whole : u * a / (a + d) * (a + d) ≤ div_ceil (u * b) (b + c) * (a + d) = omega (arith, low, high) in
+    let some : 0 < a + d = omega arith in
+    le_of_mul-le-mul_right whole some
+
+-- The ends of a share are in order.
+pub share-ordered : (u a b c d : ℕ) → a ≤ b → c ≤ d → u * a / (a + d) ≤ div_ceil (u * b) (b + c)
+share-ordered u a b c d le rest = share_ordered_at u a b c d _ refl le rest

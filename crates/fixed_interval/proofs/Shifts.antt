@@ -2,7 +2,7 @@
 use Rattle.std.proofs.Common.{◌≡◌, ℕ, suc, ◌+◌, ◌-◌, ◌*◌, ◌/◌, ◌^◌, ◌<◌, ◌≤◌, List, [], ◌∷◌, ◌++◌, map, length, slice_index, All, refl, arith, ap, ◌∙◌, inl, inr}
 use Rattle.std.specs.Int.{div_ceil}
 use Rattle.std.specs.Int.Count.{count_leading_zeros}
-use Rattle.std.proofs.Math.Nat.{div-mul-le_self, le_of_mul-le-mul_right, lt_of_mul-lt-mul_right, eq-or-lt_of_le, mul-le-mul_left, mul-le-mul_right, pow-le-pow_right}
+use Rattle.std.proofs.Math.Nat.{eq-or-lt_of_le, mul-le-mul_left, mul-le-mul_right, pow-le-pow_right}
 use Rattle.std.proofs.lemmas.Nat.{leading_top, pow-add, pow_pos}
 use Rattle.std.proofs.lemmas.Bool.{cases_lt}
 use Rattle.std.proofs.lemmas.Grind.{div_ceil_times}
@@ -10,29 +10,13 @@ use Rattle.std.proofs.lemmas.List.{get_or-map, get_or_append_left, length-map}
 use Rattle.std.proofs.Math.Seq.{get_or-append_seam}
 use Rattle.std.proofs.lemmas.List.Elements.{All-map, All-weaker}
 use Rattle.std.proofs.Common.{length-append}
-use Rattle.fixed_interval.proofs.Rounding.{div_ceil-positive}
-use Rattle.fixed_interval.specs.Ends.{Ends, between, shifted_ends}
+use Rattle.fixed_interval.proofs.Rounding.{div_ceil-le, div_ceil-positive, rounded-cross, rounded-ordered}
+use Rattle.fixed_interval.specs.Ends.{Ends, between, exact_ends, shifted_ends}
 use Rattle.fixed_interval.specs.WeightList.{EnclosesAll, IsLeastShift, IsWeight, PushesShifted, ends_at}
-
-pub div_ceil-le : (x k n : ℕ) → 0 < k → x ≤ n * k → div_ceil x k ≤ n
-div_ceil-le x k n some le =
-    let less : div_ceil x k * k < (n + 1) * k = omega (arith, (div_ceil_times x k some).1, le) in
-    let below : div_ceil x k < n + 1 = lt_of_mul-lt-mul_right k less in
-    omega arith
-
--- Two weights keep the order of their cross products when both are divided by one number.
-shifted_cross : (k l h a b : ℕ) → 0 < k → l * a ≤ h * b → l / k * a ≤ div_ceil h k * b
-shifted_cross k l h a b some cross =
-    let inner : l / k * k * a ≤ l * a = mul-le-mul_right a (div-mul-le_self l k) in
-    let outer : h * b ≤ div_ceil h k * k * b = mul-le-mul_right b ((div_ceil_times h k some).0) in
-    let whole : l / k * a * k ≤ div_ceil h k * b * k = omega (arith, inner, outer, cross) in
-    le_of_mul-le-mul_right whole some
 
 -- The ends of a shifted interval are in order.
 pub shifted-ordered : (power l h : ℕ) → l ≤ h → l / 2 ^ power ≤ div_ceil h (2 ^ power)
-shifted-ordered power l h le =
-    let cross = shifted_cross (2 ^ power) l h 1 1 (pow_pos power) (omega arith) in
-    omega (arith, cross)
+shifted-ordered power l h le = rounded-ordered (2 ^ power) l h (pow_pos power) le
 
 between_same : (a c b d : ℕ) → a ≡ c → b ≡ d → between a b ≡ between c d
 between_same a c b d low high = cc
@@ -48,6 +32,7 @@ map_shifted_none (w ∷ items) =
     let rest = map_shifted_none items in
     cc
 
+-- A list whose shift is by nothing stays as it is.
 pub map-shifted-zero : (power : ℕ) (items : List Ends) → power ≡ 0 → items ≡ map (shifted_ends power) items
 map-shifted-zero power items none = rw none (map_shifted_none items)
 
@@ -55,7 +40,10 @@ map-shifted-zero power items none = rw none (map_shifted_none items)
 exponent_below : (i j : ℕ) → 2 ^ i < 2 ^ j → i < j
 exponent_below i j less = elim (cases_lt i j) [
   | inl below ↦ below
-  | inr above ↦ let le : 2 ^ j ≤ 2 ^ i = pow-le-pow_right (let two : 0 < 2 = omega arith in two) above in omega (arith, le, less)
+  | inr above ↦
+      let two : 0 < 2 = omega arith in
+      let le : 2 ^ j ≤ 2 ^ i = pow-le-pow_right two above in
+      omega (arith, le, less)
 ]
 
 -- The power that the leading zeros of a number give, where the number is past 2 ^ 52.
@@ -69,17 +57,21 @@ leading_zeros-in_range high past below =
 
 least_at : (high j h : ℕ) → j + 1 ≡ 52 + h → 2 ^ j ≤ high - 1 → high - 1 < 2 ^ suc j → 0 < high → IsLeastShift high h
 least_at high j h is above below some = record {
-  fits = div_ceil-le high (2 ^ h) (2 ^ 52) (pow_pos h)
-      (let same : 2 ^ suc j ≡ 2 ^ 52 * 2 ^ h = ap (λ n. 2 ^ n) (let e : suc j ≡ 52 + h = omega arith in e) ∙ pow-add 2 52 h in
-      omega (arith, below, same));
+  fits =
+      let same : 2 ^ (52 + h) ≡ 2 ^ 52 * 2 ^ h = pow-add 2 52 h in
+      let exponents : suc j ≡ 52 + h = omega arith in
+      let room : 2 ^ suc j ≡ 2 ^ (52 + h) = ap (λ n. 2 ^ n) exponents in
+      div_ceil-le high (2 ^ h) (2 ^ 52) (pow_pos h) (omega (arith, below, room, same));
   least = λ k fits.
       let bound : div_ceil high (2 ^ k) * 2 ^ k ≤ 2 ^ 52 * 2 ^ k = mul-le-mul_right (2 ^ k) fits in
       let same : 2 ^ (52 + k) ≡ 2 ^ 52 * 2 ^ k = pow-add 2 52 k in
-      let room : 2 ^ j < 2 ^ (52 + k) = omega (arith, (div_ceil_times high (2 ^ k) (pow_pos k)).0, bound, same, above) in
+      let rounded = div_ceil_times high (2 ^ k) (pow_pos k) in
+      let room : 2 ^ j < 2 ^ (52 + k) = omega (arith, rounded.0, bound, same, above) in
       let less : j < 52 + k = exponent_below j (52 + k) room in
       omega arith;
 }
 
+-- That power is the least.
 pub leading_zeros-least : (high : ℕ) → 2 ^ 52 < high → high < 2 ^ 100
     → IsLeastShift high (128 - count_leading_zeros 128 (high - 1) - 52)
 leading_zeros-least high past below =
@@ -87,8 +79,12 @@ leading_zeros-least high past below =
     let more : 52 < suc top.0 = exponent_below 52 (suc top.0) (omega (arith, top.1)) in
     least_at high top.0 _ (omega (arith, top.1, more)) (omega (arith, top.1)) (omega (arith, top.1)) (omega arith)
 
+-- A number in range needs no shift.
 pub no_shift-least : (high : ℕ) → high ≤ 2 ^ 52 → IsLeastShift high 0
-no_shift-least high le = record { fits = div_ceil-le high (2 ^ 0) (2 ^ 52) (omega arith) (omega arith); least = λ k _. omega arith }
+no_shift-least high le = record {
+  fits = div_ceil-le high (2 ^ 0) (2 ^ 52) (omega arith) (omega arith);
+  least = λ k _. omega arith;
+}
 
 pub ends_at-map : (power : ℕ) (items : List Ends) (i : ℕ) → i < length items
     → ends_at (map (shifted_ends power) items) i ≡ shifted_ends power (ends_at items i)
@@ -105,7 +101,7 @@ encloses_shifts power items numbers e =
           let i_inside : i < length items = rw same at first in
           let k_inside : k < length items = rw same at second in
           rw (ends_at-map power items i i_inside, ends_at-map power items k k_inside)
-          (shifted_cross (2 ^ power) _ _ _ _ (pow_pos power) (e.in_ratio i k i_inside k_inside));
+          (rounded-cross (2 ^ power) _ _ _ _ (pow_pos power) (e.in_ratio i k i_inside k_inside));
       positive = λ k inside some.
           let k_inside : k < length items = rw same at inside in
           rw (ends_at-map power items k k_inside)
@@ -117,6 +113,19 @@ pub encloses_pushed : (old new : List Ends) (w : Ends) → PushesShifted old new
     → EnclosesAll (old ++ w ∷ []) numbers → EnclosesAll new numbers
 encloses_pushed old new w pushed numbers e =
     rw pushed.items (encloses_shifts pushed.power (old ++ w ∷ []) numbers e)
+
+-- One weight that is not 0 encloses any one number.
+pub encloses_one : (v y : ℕ) → 0 < v → EnclosesAll (exact_ends v ∷ []) (y ∷ [])
+encloses_one v y some = record {
+  same_length = refl;
+  in_ratio = λ i k first second.
+      let i_first : i ≡ 0 = omega arith in
+      let k_first : k ≡ 0 = omega arith in
+      rw (i_first, k_first) (omega arith);
+  positive = λ k inside _.
+      let k_first : k ≡ 0 = omega arith in
+      rw k_first some;
+}
 
 ends_before : (items : List Ends) (w : Ends) (i : ℕ) → i < length items → ends_at (items ++ w ∷ []) i ≡ ends_at items i
 ends_before items w i inside = get_or_append_left items (w ∷ []) (between 0 0) i inside

@@ -126,14 +126,13 @@ impl Iv {
     }
 
     /// A part in units of `1 / 2^62`, told in units of `1 / unit` and rounded outward.
-    ///
-    /// Both ends are at most `unit` where the part is at most the whole.
     pub fn outward(self, unit: u32) -> (u64, u64)
         requires { unit ≤ 1000000 }
         ensures ends { between result.0 result.1 ≡ outward_ends unit self }
         ensures encloses { (p den : ℕ) → Encloses self (2 ^ 62 * p) den
             → Encloses (between result.0 result.1) (unit * p) den }
         ensures ordered { result.0 ≤ result.1 }
+        ensures in_range { result.1 ≤ unit }
     {
         let unit = u128::from(unit);
         let low = unit * u128::from(self.lo);

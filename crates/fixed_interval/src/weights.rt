@@ -7,10 +7,11 @@ use crate::wide::Wide;
 use std::alloc::{AllocError, Global};
 use std::marker::Model;
 
-/// A list of weights that matter only up to one common factor, each with a high end of at most `2^52`.
+/// A list of weights that matter only up to one common factor, each with a high end of at most
+/// `2^52`.
 ///
-/// Room for all of them is reserved at the start, at most 4097: one for each of `2^12` states, and one more.
-/// Contracts see the weights as `items` and the room that is left as `spare`.
+/// Room for all of them is reserved at the start, and for at most 4097: one for each of `2^12`
+/// states, and one more. Contracts see the weights as `items`, and the room that is left as `spare`.
 #[derive(Debug, Drop)]
 pub struct Weights {
     items: Vec<Iv>,
@@ -36,14 +37,15 @@ impl Weights {
         })
     }
 
-    /// Puts `w` at the end, and shifts all weights where `w` is past `2^52`.
+    /// Puts `w` at the end, and shifts all weights where the high end of `w` is past `2^52`.
     ///
-    /// The shift is by the least power of two that brings the high end of `w` to at most `2^52`. It is
-    /// one for all weights, so they enclose the same numbers up to a common factor as before it.
+    /// The shift is by the least power of two that brings that end to at most `2^52`. It is one for
+    /// all weights, so what they enclose up to a common factor they enclose after it as well.
     pub fn push_shifting(&mut self, w: Wide)
         requires room { 1 ≤ self.old.spare }
         requires in_range { w.hi < 2 ^ 100 }
         ensures items { PushesShifted self.old.items self.new.items w }
+        ensures count { length self.new.items ≡ length self.old.items + 1 }
         ensures spare { self.new.spare + 1 ≡ self.old.spare }
         ensures encloses { (numbers : List ℕ) → EnclosesAll (self.old.items ++ w ∷ []) numbers
             → EnclosesAll self.new.items numbers }

@@ -93,6 +93,8 @@ impl Wide {
     }
 
     /// The share of `self` in `self` and `rest`, as a part in units of `1 / 2^62`.
+    ///
+    /// An end whose divisor is 0 is 0.
     pub fn part_of(self, rest: Wide) -> Iv
         requires in_range { self.hi ≤ 2 ^ 65 }
         requires rest_in_range { rest.hi ≤ 2 ^ 100 }
@@ -136,7 +138,8 @@ impl Wide {
 
     /// The quotient of `self` by `d`, rounded outward, with neither end above `cap`.
     ///
-    /// The high end is `cap` where `d` may be 0. The answer contains the quotient of two numbers
+    /// The high end is `cap` where the low end of `d` is 0, and the low end is 0 where the high end of
+    /// `d` is. The answer contains the quotient of two numbers
     /// wherever that quotient is known to be at most `cap`.
     pub fn over(self, d: Wide, cap: u128) -> Self
         ensures ends { result ≡ quotient_ends self d cap }
