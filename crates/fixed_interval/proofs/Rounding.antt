@@ -49,6 +49,7 @@ rounded-cross k l h a b some cross =
     let whole : l / k * a * k ≤ div_ceil h k * b * k = omega (arith, inner, outer, cross) in
     le_of_mul-le-mul_right whole some
 
+-- A quotient rounded down is at most a larger one rounded up.
 pub rounded-ordered : (k l h : ℕ) → 0 < k → l ≤ h → l / k ≤ div_ceil h k
 rounded-ordered k l h some le =
     let cross = rounded-cross k l h 1 1 some (omega arith) in
@@ -83,9 +84,11 @@ encloses_times i k a b x d num den e =
       high = omega (arith, mul-le-mul_left k e.high);
     })
 
+-- A number alone contains itself, over every denominator.
 pub encloses_exact : (v : ℕ) (r : Ends) → r ≡ exact_ends v → (den : ℕ) → Encloses r (v * den) den
 encloses_exact v r is den = rw is (record { low = omega arith; high = omega arith })
 
+-- A sum of two numbers over one denominator.
 pub encloses_plus : (s t r : Ends) → r ≡ plus_ends s t → (a b den : ℕ) → Encloses s a den → Encloses t b den
     → Encloses r (a + b) den
 encloses_plus s t r is a b den es et = rw is (record {
@@ -93,15 +96,17 @@ encloses_plus s t r is a b den es et = rw is (record {
   high = omega (arith, es.high, et.high);
 })
 
--- The cap takes nothing from a sum that is known to be below it.
+-- A cap only lowers a low end.
 low_capped : (l cap d a : ℕ) → l * d ≤ a → min l cap * d ≤ a
 low_capped l cap d a low =
     let less : min l cap ≤ l = omega arith in
     omega (arith, mul-le-mul_right d less, low)
 
+-- A cap leaves a high end above each number that the cap itself is above.
 high_capped : (h cap d a : ℕ) → a ≤ h * d → a ≤ cap * d → a ≤ min h cap * d
 high_capped h cap d a high fits = grind arith
 
+-- The same sum, where it is known to be at most the cap.
 pub encloses_plus_capped : (s t r : Ends) (cap : ℕ) → r ≡ plus_capped_ends s t cap → (a b den : ℕ)
     → Encloses s a den → Encloses t b den → a + b ≤ cap * den → Encloses r (a + b) den
 encloses_plus_capped s t r cap is a b den es et fits = rw is (record {
@@ -109,6 +114,7 @@ encloses_plus_capped s t r cap is a b den es et fits = rw is (record {
   high = high_capped (s.hi + t.hi) cap den (a + b) (omega (arith, es.high, et.high)) fits;
 })
 
+-- A product of two numbers, each over a denominator of its own.
 pub encloses_product : (s t r : Ends) → r ≡ product_ends s t → (a m b n : ℕ) → Encloses s a m → Encloses t b n
     → Encloses r (a * b) (m * n)
 encloses_product s t r is a m b n es et = rw is (record {
@@ -116,6 +122,7 @@ encloses_product s t r is a m b n es et = rw is (record {
   high = omega (arith, mul-le a b (s.hi * m) (t.hi * n) es.high et.high);
 })
 
+-- The same product, where the second is a part of 2 ^ 62.
 pub encloses_times_part : (s t r : Ends) → r ≡ times_part_ends s t → (a m p n : ℕ) → Encloses s a m
     → Encloses t (2 ^ 62 * p) n → Encloses r (a * p) (m * n)
 encloses_times_part s t r is a m p n es et = rw is (record {
@@ -125,6 +132,7 @@ encloses_times_part s t r is a m p n es et = rw is (record {
       (omega (arith, mul-le a (2 ^ 62 * p) (s.hi * m) (t.hi * n) es.high et.high));
 })
 
+-- A part of 2 ^ 62, told in another unit.
 pub encloses_outward : (s r : Ends) (unit : ℕ) → r ≡ outward_ends unit s → (p den : ℕ) → Encloses s (2 ^ 62 * p) den
     → Encloses r (unit * p) den
 encloses_outward s r unit is p den e = rw is (record {
@@ -132,12 +140,14 @@ encloses_outward s r unit is p den e = rw is (record {
   high = ceil_above (unit * s.hi) (2 ^ 62) den (unit * p) (omega arith) (omega (arith, mul-le-mul_left unit e.high));
 })
 
+-- A number times a whole number.
 pub encloses_scaled : (s r : Ends) (k : ℕ) → r ≡ scaled_ends k s → (x den : ℕ) → Encloses s x den → Encloses r (k * x) den
 encloses_scaled s r k is x den e = rw is (record {
   low = omega (arith, mul-le-mul_left k e.low);
   high = omega (arith, mul-le-mul_left k e.high);
 })
 
+-- A number times a fraction.
 pub encloses_ratio : (s r : Ends) (a b : ℕ) → 0 < b → r ≡ ratio_ends s a b → (x den : ℕ) → Encloses s x den
     → Encloses r (x * a) (b * den)
 encloses_ratio s r a b some is x den e = rw is (record {
@@ -145,6 +155,7 @@ encloses_ratio s r a b some is x den e = rw is (record {
   high = ceil_above (s.hi * a) b (b * den) (x * a) some (omega (arith, mul-le-mul_left (a * b) e.high));
 })
 
+-- A number divided by a power of two.
 pub encloses_shifted : (s r : Ends) (h : ℕ) → r ≡ shifted_ends h s → (x den : ℕ) → Encloses s x den
     → Encloses r x (2 ^ h * den)
 encloses_shifted s r h is x den e = rw is (record {
@@ -231,6 +242,7 @@ quotient_high false h l cap d x y is high low fits =
     let outer : div_ceil h l * (l * d) ≤ div_ceil h l * y = mul-le-mul_left (div_ceil h l) low in
     high_capped (div_ceil h l) cap y x (omega (arith, high, inner, outer)) fits
 
+-- The quotient of two numbers over one denominator, where it is known to be at most the cap.
 pub encloses_quotient : (s t r : Ends) (cap : ℕ) → r ≡ quotient_ends s t cap → (x y den : ℕ) → Encloses s x den
     → Encloses t y den → x ≤ cap * y → Encloses r x y
 encloses_quotient s t r cap is x y den es et fits = rw is (record {

@@ -86,6 +86,7 @@ no_shift-least high le = record {
   least = λ k _. omega arith;
 }
 
+-- A shift of all weights shifts the one at each place.
 pub ends_at-map : (power : ℕ) (items : List Ends) (i : ℕ) → i < length items
     → ends_at (map (shifted_ends power) items) i ≡ shifted_ends power (ends_at items i)
 ends_at-map power items i inside = get_or-map (shifted_ends power) items i (between 0 0) (between 0 0) inside
@@ -181,7 +182,7 @@ encloses_push items numbers w y ordered e below above some =
           ];
     }
 
--- Shifted weights are weights, and so is one that its least shift brings into range.
+-- A weight that is shifted stays a weight.
 pub IsWeight-shifted : (power : ℕ) (w : Ends) → IsWeight w → IsWeight (shifted_ends power w)
 IsWeight-shifted power w (le, fits) = (
   shifted-ordered power w.lo w.hi le,
