@@ -1,3 +1,5 @@
 pub mod Grids
 pub mod PlanSums
 pub mod Grouping
+pub mod Accepting
+pub mod TravelTimes

@@ -1,5 +1,5 @@
 -- Words of the checks that accept a plan's parts.
-use Rattle.std.specs.Prelude.{◌≡◌, ◌==◌, ℕ, ◌<◌, ◌≤◌, List, All, count_by}
+use Rattle.std.specs.Prelude.{◌≡◌, ◌==◌, ℕ, ◌<◌, ◌≤◌, List, length, All, count_by}
 use Rattle.hyper_model.specs.declared.parts.PlanParts.{PlanParts}
 use Rattle.hyper_model.specs.Grid.{Grid, cell}
 use Rattle.hyper_model.specs.Groups.{GroupLists, groups_in, IsGrouped}
@@ -40,6 +40,11 @@ EachStandsOnce n list = (unit : ℕ) → unit < n → places_in list unit ≡ 1
 pub record IsFullList (n : ℕ) (list : List ℕ) : Type 0 where
   pub within : All (λ unit. unit < n) list
   pub once : EachStandsOnce n list
+
+-- a list for each atom, with a place for each unit
+pub record HasListSizes (p : PlanParts) : Type 0 where
+  pub one_each : length p.lists.rows ≡ atoms p
+  pub width : p.lists.units ≡ units p
 
 -- the first n lists are groups of all units
 abbrev pub AreGrouped : GroupLists → ℕ → Type 0

@@ -1,8 +1,8 @@
-ghost use Rattle.std.specs.Prelude.{◌≡◌, ◌<◌, ◌↔◌, ℕ, IsTrue, length};
+ghost use Rattle.std.specs.Prelude.{◌≡◌, ◌<◌, ◌↔◌, ℕ, IsTrue, length, All};
 ghost use Rattle.hyper_model.specs.Grid.{cell};
 ghost use Rattle.hyper_model.specs.Sums.{sum_below};
 ghost use Rattle.hyper_model.specs.Plans.{HasLists, HasLocations, HasTravel};
-ghost use Rattle.hyper_model.specs.Acceptance.{places_in, EachStandsOnce, IsFullList, AreGrouped, AreWhole, IsRowWithin};
+ghost use Rattle.hyper_model.specs.Acceptance.{places_in, EachStandsOnce, IsFullList, HasListSizes, AreGrouped, AreWhole, IsRowWithin};
 
 use crate::{Lists, PlanParts, Table};
 
@@ -15,9 +15,13 @@ const MOST_TRAVEL: u32 = 100_000;
 pub(crate) fn has_lists(parts: &PlanParts) -> bool
     ensures { IsTrue result ↔ HasLists parts.now }
 {
-    parts.lists.atoms() == parts.atoms.len()
-        && parts.lists.units() == parts.units.len()
-        && are_grouped(&parts.lists)
+    has_list_sizes(parts) && are_grouped(&parts.lists)
+}
+
+fn has_list_sizes(parts: &PlanParts) -> bool
+    ensures { IsTrue result ↔ HasListSizes parts.now }
+{
+    parts.lists.atoms() == parts.atoms.len() && parts.lists.units() == parts.units.len()
 }
 
 fn are_grouped(lists: &Lists) -> bool
@@ -36,7 +40,13 @@ fn are_grouped(lists: &Lists) -> bool
 fn is_full(list: &[u8], units: usize) -> bool
     ensures { IsTrue result ↔ IsFullList units list.now }
 {
-    list.iter().all(|unit| usize::from(*unit) < units) && stands_each_once(list, units)
+    are_units(list, units) && stands_each_once(list, units)
+}
+
+fn are_units(list: &[u8], units: usize) -> bool
+    ensures { IsTrue result ↔ All (λ unit. unit < units) list.now }
+{
+    list.iter().all(|unit| usize::from(*unit) < units)
 }
 
 fn stands_each_once(list: &[u8], units: usize) -> bool
