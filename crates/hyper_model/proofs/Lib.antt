@@ -4,3 +4,5 @@ pub mod Grouping
 pub mod ListRows
 pub mod NameText
 pub mod PlanSums
+pub mod Accepting
+pub mod TravelTimes

@@ -10,3 +10,4 @@ pub mod Solutions
 pub mod Measures
 pub mod Enclosures
 pub mod Acceptance
+pub mod TravelTimes
