@@ -6,5 +6,6 @@ pub mod Plans
 pub mod Words
 pub mod Rates
 pub mod Solutions
+pub mod Tables
 pub mod Measures
 pub mod Enclosures

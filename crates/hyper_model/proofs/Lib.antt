@@ -1,0 +1,6 @@
+pub mod Sums
+pub mod Tables
+pub mod Chains
+pub mod Bits
+pub mod Takers
+pub mod WordTables
