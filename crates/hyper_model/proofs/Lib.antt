@@ -4,3 +4,4 @@ pub mod Chains
 pub mod Bits
 pub mod Takers
 pub mod WordTables
+pub mod PlanLaws
