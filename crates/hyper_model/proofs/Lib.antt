@@ -5,3 +5,5 @@ pub mod Bits
 pub mod Takers
 pub mod WordTables
 pub mod PlanLaws
+pub mod Queue
+pub mod Levels
