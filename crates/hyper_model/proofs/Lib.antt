@@ -1,9 +1,11 @@
 pub mod Sums
 pub mod Tables
 pub mod Chains
+pub mod Relabel
 pub mod Bits
 pub mod Takers
 pub mod WordTables
 pub mod PlanLaws
+pub mod Masses
 pub mod Queue
 pub mod Levels

@@ -12,7 +12,7 @@ use Rattle.hyper_model.specs.Words.{words, is_busy, full_word, turned}
 use Rattle.hyper_model.specs.Rates.{up, leaving, coming, IsBalancedWord}
 use Rattle.hyper_model.specs.Solutions.{mass_in, SolvesWords, IsTail, IsSolution, HasSolution}
 use Rattle.hyper_model.specs.Tables.{SolvesTable, IsBalancedState, word_table}
-use Rattle.hyper_model.specs.Laws.{PositiveLaw, ProportionLaw}
+use Rattle.hyper_model.specs.Laws.{AreWordsPositive, IsTailPositive, AreWordsProportional, IsTailProportional}
 use Rattle.hyper_model.proofs.Sums.{sum-scaled, sum-same, place_le_sum, same_factor}
 use Rattle.hyper_model.proofs.Chains.{listed, listed_at, solves_alike, solution_exists, first_positive, proportional}
 use Rattle.hyper_model.proofs.Bits.{turned_twice, turned_lt, turned_up, busy_turned, free_exists, words_full}
@@ -48,7 +48,8 @@ scaled_solves n k e x h s = record {
       sum-same n (λ i. k * x i * e i j) (λ i. k * (x i * e i j)) (λ i m. omega arith));
 }
 
-full_below : (p : PlanParts) → full_word p < words p
+-- the full word is a word
+pub full_below : (p : PlanParts) → full_word p < words p
 full_below p = omega (arith, words_full (units p))
 
 -- where calls are lost, a solution of the words is one; where they wait, its masses are multiplied by the
@@ -137,18 +138,17 @@ tail_of p xs z s e = subst (λ l. IsTail l p xs z) e s.tail
 pub stable_of : (p : PlanParts) → IsAccepted p → p.line ≡ line.Infinite → all_calls p < all_service p
 stable_of p a e = subst (λ l. IsStable l (all_calls p) (all_service p)) e a.stable
 
-pub is_positive : (p : PlanParts) → IsAccepted p → PositiveLaw p
-is_positive p a = record {
-  each_word = λ xs z s w l. omega (arith, word_positive p a xs s.words w l);
-  waiting = λ xs z s e.
+pub words_are_positive : (p : PlanParts) → IsAccepted p → AreWordsPositive p
+words_are_positive p a xs z s w l = omega (arith, word_positive p a xs s.words w l)
+
+some_waiting : (d z : ℕ) → 0 < d * z → 1 ≤ z
+some_waiting d zero h = absurd (omega arith)
+some_waiting d (suc z) h = omega arith
+
+pub tail_is_positive : (p : PlanParts) → IsAccepted p → IsTailPositive p
+tail_is_positive p a xs z s e =
     let full = word_positive p a xs s.words (full_word p) (full_below p) in
-    some_waiting (all_service p - all_calls p) z
-      (omega (arith, tail_of p xs z s e, mul-pos a.atoms.calls.low full));
-}
-  where
-    some_waiting : (d z : ℕ) → 0 < d * z → 1 ≤ z
-    some_waiting d zero h = absurd (omega arith)
-    some_waiting d (suc z) h = omega arith
+    some_waiting (all_service p - all_calls p) z (omega (arith, tail_of p xs z s e, mul-pos a.atoms.calls.low full))
 
 pub words_proportional : (p : PlanParts) → IsAccepted p → (xs ys : List ℕ) → SolvesWords p xs → SolvesWords p ys
     → (v w : ℕ) → v < words p → w < words p → mass_in xs v * mass_in ys w ≡ mass_in xs w * mass_in ys v
@@ -156,19 +156,18 @@ words_proportional p a xs ys s t v w l k =
     proportional (words p) (word_table p) (mass_in xs) (mass_in ys) (words_descend p a)
       (solves_word_table p a xs s) (solves_word_table p a ys t) v w l k
 
-pub is_proportional : (p : PlanParts) → IsAccepted p → ProportionLaw p
-is_proportional p a = record {
-  each_word = λ xs ys z t s r v w l k. words_proportional p a xs ys s.words r.words v w l k;
-  waiting = λ xs ys z t s r v l. on_line p.line refl xs ys z t s r v l;
-}
+pub words_are_proportional : (p : PlanParts) → IsAccepted p → AreWordsProportional p
+words_are_proportional p a xs ys z t s r v w l k = words_proportional p a xs ys s.words r.words v w l k
+
+pub tail_is_proportional : (p : PlanParts) → IsAccepted p → IsTailProportional p
+tail_is_proportional p a xs ys z t s r v l = on_line p.line refl
   where
-    on_line : (l : Line) → p.line ≡ l → (xs ys : List ℕ) (z t : ℕ) → IsSolution p xs z → IsSolution p ys t
-        → (v : ℕ) → v < words p → mass_in xs v * t ≡ z * mass_in ys v
-    on_line line.Zero e xs ys z t s r v l =
+    on_line : (l : Line) → p.line ≡ l → mass_in xs v * t ≡ z * mass_in ys v
+    on_line line.Zero e =
         let none : z ≡ 0 = subst (λ c. IsTail c p xs z) e s.tail in
         let nor : t ≡ 0 = subst (λ c. IsTail c p ys t) e r.tail in
         omega (arith, ap (λ c. mass_in xs v * c) nor, ap (λ c. c * mass_in ys v) none)
-    on_line line.Infinite e xs ys z t s r v l =
+    on_line line.Infinite e =
         let stable = stable_of p a e in
         same_factor (all_service p - all_calls p) (mass_in xs v * t) (z * mass_in ys v) (omega arith)
           (omega (arith, ap (λ c. mass_in xs v * c) (tail_of p ys t r e), ap (λ c. c * mass_in ys v) (tail_of p xs z s e),

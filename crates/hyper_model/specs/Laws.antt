@@ -9,17 +9,26 @@ use Rattle.hyper_model.specs.Words.{words, is_busy, full_word}
 use Rattle.hyper_model.specs.Rates.{leaving, coming, IsBalancedWord}
 use Rattle.hyper_model.specs.Solutions.{mass_in, IsSolution}
 
--- in every solution each word has a mass, and so have the waiting calls where there can be any
-pub record PositiveLaw (p : PlanParts) : Type 0 where
-  pub each_word : (xs : List ℕ) (z : ℕ) → IsSolution p xs z → (w : ℕ) → w < words p → 1 ≤ mass_in xs w
-  pub waiting : (xs : List ℕ) (z : ℕ) → IsSolution p xs z → p.line ≡ line.Infinite → 1 ≤ z
+-- in every solution each word has a mass
+abbrev pub AreWordsPositive : PlanParts → Type 0
+AreWordsPositive p =
+    (xs : List ℕ) (z : ℕ) → IsSolution p xs z → (w : ℕ) → w < words p → 1 ≤ mass_in xs w
 
--- any two solutions are proportional, the waiting calls included
-pub record ProportionLaw (p : PlanParts) : Type 0 where
-  pub each_word : (xs ys : List ℕ) (z t : ℕ) → IsSolution p xs z → IsSolution p ys t
-      → (v w : ℕ) → v < words p → w < words p → mass_in xs v * mass_in ys w ≡ mass_in xs w * mass_in ys v
-  pub waiting : (xs ys : List ℕ) (z t : ℕ) → IsSolution p xs z → IsSolution p ys t
-      → (v : ℕ) → v < words p → mass_in xs v * t ≡ z * mass_in ys v
+-- and so have the waiting calls, where calls wait
+abbrev pub IsTailPositive : PlanParts → Type 0
+IsTailPositive p = (xs : List ℕ) (z : ℕ) → IsSolution p xs z → p.line ≡ line.Infinite → 1 ≤ z
+
+-- any two solutions are proportional
+abbrev pub AreWordsProportional : PlanParts → Type 0
+AreWordsProportional p =
+    (xs ys : List ℕ) (z t : ℕ) → IsSolution p xs z → IsSolution p ys t
+    → (v w : ℕ) → v < words p → w < words p → mass_in xs v * mass_in ys w ≡ mass_in xs w * mass_in ys v
+
+-- by the same factor at the waiting calls
+abbrev pub IsTailProportional : PlanParts → Type 0
+IsTailProportional p =
+    (xs ys : List ℕ) (z t : ℕ) → IsSolution p xs z → IsSolution p ys t
+    → (v : ℕ) → v < words p → mass_in xs v * t ≡ z * mass_in ys v
 
 -- The fleet with places for `room` waiting calls: x(w) is the mass of the word w, and q(k) that of the state in
 -- which all units are busy and k calls wait. Each state has its balance.

@@ -5,6 +5,7 @@
 mod enclosure_list;
 mod grid;
 mod kinds;
+mod laws;
 mod name;
 mod name_list;
 mod parts;
@@ -14,6 +15,7 @@ mod preference;
 pub use enclosure_list::Enclosures;
 pub use grid::Table;
 pub use kinds::{Enclosed, Found, Line, Measure, Rule, scale};
+pub use laws::{law_existence, law_levels, law_positive, law_proportion, law_tail};
 pub use name::{MOST_NAME_BYTES, Name, NameEnd};
 pub use name_list::Names;
 pub use parts::{Atom, Atoms, PlanParts, Unit, Units};
