@@ -7,5 +7,6 @@ pub mod Takers
 pub mod WordTables
 pub mod PlanLaws
 pub mod Masses
+pub mod Denominators
 pub mod Queue
 pub mod Levels

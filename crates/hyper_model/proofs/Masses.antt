@@ -183,3 +183,46 @@ taken_room p a x z j l = ap (λ c. c + split p * queued p x z) (taken_all p a x 
         → split p * sum_below (full_word p) x + split p * queued_on k p x z ≡ split p * base_on k p x z
     on_line line.Zero = omega arith
     on_line line.Infinite = omega (arith, ap (λ c. split p * c) (all_words p x))
+
+-- so the dispatches to an atom, all units together, are its part of all that is answered
+pub dispatched_to_atom : (p : PlanParts) → IsAccepted p → (x : ℕ → ℕ) (z j : ℕ) → j < atoms p
+    → sum_below (units p) (λ n. dispatched p x z n j) ≡ calls_of p j * (all_service p * split p * base p x z)
+dispatched_to_atom p a x z j l =
+    sum-scaled (units p) (calls_of p j)
+      (λ n. all_service p * taken_mass p x n j + split p * service_of p n * queued p x z)
+    ∙ ap (λ c. calls_of p j * c)
+        (omega (arith,
+          sum-add (units p) (λ n. all_service p * taken_mass p x n j) (λ n. split p * service_of p n * queued p x z),
+          sum-scaled (units p) (all_service p) (λ n. taken_mass p x n j),
+          sum-same (units p) (λ n. split p * service_of p n * queued p x z)
+            (λ n. split p * queued p x z * service_of p n) (λ n h. omega arith),
+          sum-scaled (units p) (split p * queued p x z) (service_of p),
+          ap (λ c. all_service p * c) (taken_room p a x z j l)))
+
+-- and so are all dispatches
+pub dispatched_all : (p : PlanParts) → IsAccepted p → (x : ℕ → ℕ) (z : ℕ)
+    → sum_below (units p) (dispatched_by p x z) ≡ all_calls p * all_service p * split p * base p x z
+dispatched_all p a x z =
+    sum-swap (units p) (atoms p) (λ n j. dispatched p x z n j)
+    ∙ sum-same (atoms p) (λ j. sum_below (units p) (λ n. dispatched p x z n j))
+        (λ j. all_service p * split p * base p x z * calls_of p j)
+        (λ j l. omega (arith, dispatched_to_atom p a x z j l))
+    ∙ omega (arith, sum-scaled (atoms p) (all_service p * split p * base p x z) (calls_of p))
+
+-- and those to a district
+pub dispatched_into : (p : PlanParts) → IsAccepted p → (x : ℕ → ℕ) (z m : ℕ)
+    → sum_below (units p) (λ n. dispatched_inside p x z n m)
+      ≡ district_calls p m * all_service p * split p * base p x z
+dispatched_into p a x z m =
+    sum-swap (units p) (atoms p) (λ n j. cond (is_inside p m j) (dispatched p x z n j) 0)
+    ∙ sum-same (atoms p) (λ j. sum_below (units p) (λ n. cond (is_inside p m j) (dispatched p x z n j) 0))
+        (λ j. all_service p * split p * base p x z * cond (is_inside p m j) (calls_of p j) 0)
+        (λ j l. of_atom (is_inside p m j) j l)
+    ∙ omega (arith, sum-scaled (atoms p) (all_service p * split p * base p x z)
+        (λ j. cond (is_inside p m j) (calls_of p j) 0))
+  where
+    of_atom : (b : Bool) (j : ℕ) → j < atoms p
+        → sum_below (units p) (λ n. cond b (dispatched p x z n j) 0)
+          ≡ all_service p * split p * base p x z * cond b (calls_of p j) 0
+    of_atom true j l = omega (arith, dispatched_to_atom p a x z j l)
+    of_atom false j l = omega (arith, sum_none (units p) (λ n. 0) (λ n h. refl))
