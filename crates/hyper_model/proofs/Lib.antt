@@ -6,3 +6,15 @@ pub mod NameText
 pub mod PlanSums
 pub mod Accepting
 pub mod TravelTimes
+pub mod Sums
+pub mod Tables
+pub mod Chains
+pub mod Relabel
+pub mod Bits
+pub mod Takers
+pub mod WordTables
+pub mod PlanLaws
+pub mod Masses
+pub mod Denominators
+pub mod Queue
+pub mod Levels

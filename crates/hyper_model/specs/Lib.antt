@@ -7,6 +7,8 @@ pub mod Plans
 pub mod Words
 pub mod Rates
 pub mod Solutions
+pub mod Tables
+pub mod Laws
 pub mod Measures
 pub mod Enclosures
 pub mod Acceptance
