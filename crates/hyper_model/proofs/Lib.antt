@@ -1,2 +1,5 @@
 pub mod Worked
 mod WorkedOneUnit
+mod WorkedTwoUnits
+mod WorkedThreeUnits
+mod WorkedUnequal

@@ -1,8 +1,9 @@
 -- What the worked plans share: balance at each word of a short list of masses, and the ends of a measure.
-use Rattle.std.proofs.Common.{◌≡◌, ◌≢◌, ◌⊎◌, inl, inr, ℕ, zero, suc, ◌<◌, List, arith, subst, sym}
+use Rattle.std.proofs.Common.{◌≡◌, ◌≢◌, ◌⊎◌, inl, inr, ℕ, zero, suc, ◌-◌, ◌<◌, Bool, true, List, ◌++◌, length, replicate, arith, subst, sym}
 use Rattle.std.proofs.lemmas.Bool.{cases_eq}
 use Rattle.hyper_model.specs.declared.kinds.Measure.{Measure}
 use Rattle.hyper_model.specs.declared.parts.PlanParts.{PlanParts}
+use Rattle.hyper_model.specs.declared.preference.ListRow.{ListRow}
 use Rattle.hyper_model.specs.Measures.{ContainsRatio, measure_of, scale_of}
 use Rattle.hyper_model.specs.Solutions.{mass_in}
 
@@ -21,3 +22,10 @@ each_below (suc n) P all k below = elim (cases_eq k n) [
 -- the ends lo and hi, in last printed digits, contain the plan's measure
 abbrev pub Holds : PlanParts → List ℕ → ℕ → Measure → ℕ → ℕ → Type 0
 Holds p xs z m lo hi = ContainsRatio lo hi (scale_of m) (measure_of p (mass_in xs) z m)
+
+-- a list of an atom, with the rest of its twelve places as they were at first
+abbrev pub row_of_units : List ℕ → List Bool → ListRow
+row_of_units units begins = record {
+  members = units ++ replicate (12 - length units) 0;
+  begins = begins ++ replicate (12 - length begins) true;
+}

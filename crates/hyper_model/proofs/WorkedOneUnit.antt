@@ -9,7 +9,7 @@ use Rattle.hyper_model.specs.declared.kinds.Measure.TheVariants as measure
 use Rattle.hyper_model.specs.declared.parts.PlanParts.{PlanParts}
 use Rattle.hyper_model.specs.Measures.{is_without}
 use Rattle.hyper_model.specs.Solutions.{IsSolution}
-use Rattle.hyper_model.proofs.Worked.{each_below, Holds}
+use Rattle.hyper_model.proofs.Worked.{each_below, Holds, row_of_units}
 
 -- unit A, in its atom P for all its free time, serves its own district
 abbrev one_unit : Line → ℕ → ℕ → PlanParts
@@ -19,7 +19,7 @@ one_unit waits calls service = record {
   period = 3600;
   units = record { name = 65 ∷ []; rate = service } ∷ [];
   atoms = record { name = 80 ∷ []; rate = calls; x = 0; y = 0; district = 0 } ∷ [];
-  lists = record { units = 1; rows = record { members = 0 ∷ []; begins = true ∷ [] } ∷ [] };
+  lists = record { units = 1; rows = row_of_units (0 ∷ []) (true ∷ []) ∷ [] };
   located = record { rows = 1; cols = 1; cells = 1000 ∷ [] };
   travel = record { rows = 1; cols = 1; cells = 300 ∷ [] };
 }
