@@ -2,4 +2,4 @@ pub mod Worked
 mod WorkedOneUnit
 mod WorkedTwoUnits
 mod WorkedThreeUnits
-mod WorkedUnequal
+mod WorkedMixed

@@ -1,5 +1,5 @@
 -- What the worked plans share: balance at each word of a short list of masses, and the ends of a measure.
-use Rattle.std.proofs.Common.{◌≡◌, ◌≢◌, ◌⊎◌, inl, inr, ℕ, zero, suc, ◌-◌, ◌<◌, Bool, true, List, ◌++◌, length, replicate, arith, subst, sym}
+use Rattle.std.proofs.Common.{inl, inr, ℕ, zero, suc, ◌-◌, ◌<◌, Bool, true, List, ◌++◌, length, replicate, arith, subst, sym}
 use Rattle.std.proofs.lemmas.Bool.{cases_eq}
 use Rattle.hyper_model.specs.declared.kinds.Measure.{Measure}
 use Rattle.hyper_model.specs.declared.parts.PlanParts.{PlanParts}

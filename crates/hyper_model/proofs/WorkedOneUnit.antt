@@ -33,7 +33,11 @@ half_load_masses = 2 ∷ 1 ∷ []
 
 pub half_load_solution : IsSolution half_load half_load_masses 0
 half_load_solution = record {
-  words = record { one_each = refl; positive = omega arith; balanced = each_below 2 _ ((tt, refl), refl) };
+  words = record {
+    one_each = refl;
+    positive = omega arith;
+    balanced = each_below 2 _ ((tt, refl), refl);
+  };
   tail = refl;
 }
 
@@ -42,6 +46,12 @@ half_load_holds = Holds half_load half_load_masses 0
 
 pub half_load_loss : half_load_holds measure.Loss 333333 333334
 half_load_loss = omega arith
+
+pub half_load_waiting :
+    half_load_holds measure.Delay 0 0
+    × half_load_holds measure.Queue 0 0
+    × half_load_holds measure.Wait 0 0
+half_load_waiting = omega arith
 
 pub half_load_workload : half_load_holds (measure.Workload 0) 333333 333334
 half_load_workload = omega arith
@@ -62,11 +72,10 @@ pub half_load_travel :
     × half_load_holds (measure.TravelDistrict 0) 300000 300000
 half_load_travel = omega arith
 
-pub half_load_queue :
-    half_load_holds measure.Delay 0 0
-    × half_load_holds measure.Queue 0 0
-    × half_load_holds measure.Wait 0 0
-half_load_queue = omega arith
+pub half_load_without :
+    (is_without half_load (measure.InterdistrictDistrict 0) ≡ false)
+    × (is_without half_load (measure.TravelDistrict 0) ≡ false)
+half_load_without = (refl, refl)
 
 -- one call in the time of three services, and a call that finds the unit busy is lost
 abbrev third_load : PlanParts
@@ -77,7 +86,11 @@ third_load_masses = 3 ∷ 1 ∷ []
 
 pub third_load_solution : IsSolution third_load third_load_masses 0
 third_load_solution = record {
-  words = record { one_each = refl; positive = omega arith; balanced = each_below 2 _ ((tt, refl), refl) };
+  words = record {
+    one_each = refl;
+    positive = omega arith;
+    balanced = each_below 2 _ ((tt, refl), refl);
+  };
   tail = refl;
 }
 
@@ -115,7 +128,11 @@ short_queue_masses = 6 ∷ 2 ∷ []
 
 pub short_queue_solution : IsSolution short_queue short_queue_masses 1
 short_queue_solution = record {
-  words = record { one_each = refl; positive = omega arith; balanced = each_below 2 _ ((tt, refl), refl) };
+  words = record {
+    one_each = refl;
+    positive = omega arith;
+    balanced = each_below 2 _ ((tt, refl), refl);
+  };
   tail = refl;
 }
 
@@ -125,11 +142,11 @@ short_queue_holds = Holds short_queue short_queue_masses 1
 pub short_queue_loss : short_queue_holds measure.Loss 0 0
 short_queue_loss = omega arith
 
-pub short_queue_queue :
+pub short_queue_waiting :
     short_queue_holds measure.Delay 333333 333334
     × short_queue_holds measure.Queue 166666 166667
     × short_queue_holds measure.Wait 599999 600001
-short_queue_queue = omega arith
+short_queue_waiting = omega arith
 
 pub short_queue_workload : short_queue_holds (measure.Workload 0) 333333 333334
 short_queue_workload = omega arith
@@ -150,7 +167,7 @@ pub short_queue_travel :
     × short_queue_holds (measure.TravelDistrict 0) 299999 300000
 short_queue_travel = omega arith
 
--- a queue next to no end: hardly less calls than service
+-- hardly less calls than service: nearly a million calls wait
 abbrev long_queue : PlanParts
 long_queue = one_unit line.Infinite 999999 1000000
 
@@ -159,20 +176,24 @@ long_queue_masses = 1000000 ∷ 999999 ∷ []
 
 pub long_queue_solution : IsSolution long_queue long_queue_masses 999998000001
 long_queue_solution = record {
-  words = record { one_each = refl; positive = omega arith; balanced = each_below 2 _ ((tt, refl), refl) };
+  words = record {
+    one_each = refl;
+    positive = omega arith;
+    balanced = each_below 2 _ ((tt, refl), refl);
+  };
   tail = refl;
 }
 
 abbrev long_queue_holds : Measure → ℕ → ℕ → Type 0
 long_queue_holds = Holds long_queue long_queue_masses 999998000001
 
-pub long_queue_queue : long_queue_holds measure.Queue 999998000000 999998000002
-long_queue_queue = omega arith
+pub long_queue_waiting : long_queue_holds measure.Queue 999998000000 999998000002
+long_queue_waiting = omega arith
 
 pub long_queue_workload : long_queue_holds (measure.Workload 0) 999998 1000000
 long_queue_workload = omega arith
 
--- ten calls in the time of one service, nearly all lost
+-- ten calls in the time of one service, nearly all of them lost
 abbrev overload : PlanParts
 overload = one_unit line.Zero 10 1
 
@@ -181,7 +202,11 @@ overload_masses = 1 ∷ 10 ∷ []
 
 pub overload_solution : IsSolution overload overload_masses 0
 overload_solution = record {
-  words = record { one_each = refl; positive = omega arith; balanced = each_below 2 _ ((tt, refl), refl) };
+  words = record {
+    one_each = refl;
+    positive = omega arith;
+    balanced = each_below 2 _ ((tt, refl), refl);
+  };
   tail = refl;
 }
 

@@ -1,7 +1,6 @@
--- Two units of equal rates on the line where a call is lost: with lists that begin with the own unit, with one group,
--- and with one atom alone. The masses stand in the order: none busy, A, B, both.
-use Rattle.std.proofs.Common.{◌≡◌, ℕ, List, [], ◌∷◌, Bool, true, false, refl, arith}
-use Rattle.hyper_model.specs.declared.kinds.Line.{Line}
+-- Two units of equal rates, where a call that finds both busy is lost: with lists that begin with the own unit, with
+-- one group, and with one atom alone. The masses stand in the order: none busy, A, B, both.
+use Rattle.std.proofs.Common.{◌≡◌, ℕ, List, [], ◌∷◌, true, false, refl, arith}
 use Rattle.hyper_model.specs.declared.kinds.Line.TheVariants as line
 use Rattle.hyper_model.specs.declared.kinds.Rule.TheVariants as rule
 use Rattle.hyper_model.specs.declared.kinds.Measure.{Measure}
@@ -13,28 +12,40 @@ use Rattle.hyper_model.specs.Solutions.{IsSolution}
 use Rattle.hyper_model.proofs.Worked.{each_below, Holds, row_of_units}
 
 -- unit A is in its atom P, unit B in its atom Q; within an atom 60 seconds, between them 300
-abbrev two_districts : List ListRow → PlanParts
-two_districts rows = record {
+abbrev two_districts : ListRow → ListRow → PlanParts
+two_districts list_of_p list_of_q = record {
   line = line.Zero;
   rule = rule.Given;
   period = 3600;
   units = record { name = 65 ∷ []; rate = 3 } ∷ record { name = 66 ∷ []; rate = 3 } ∷ [];
-  atoms = record { name = 80 ∷ []; rate = 1; x = 0; y = 0; district = 0 } ∷ record { name = 81 ∷ []; rate = 1; x = 9; y = 0; district = 1 } ∷ [];
-  lists = record { units = 2; rows = rows };
+  atoms =
+      record { name = 80 ∷ []; rate = 1; x = 0; y = 0; district = 0 }
+      ∷ record { name = 81 ∷ []; rate = 1; x = 9; y = 0; district = 1 }
+      ∷ [];
+  lists = record { units = 2; rows = list_of_p ∷ list_of_q ∷ [] };
   located = record { rows = 2; cols = 2; cells = 1000 ∷ 0 ∷ 0 ∷ 1000 ∷ [] };
   travel = record { rows = 2; cols = 2; cells = 60 ∷ 300 ∷ 300 ∷ 60 ∷ [] };
 }
 
+-- either of the two units, with equal probability
+abbrev either_unit : ListRow
+either_unit = row_of_units (0 ∷ 1 ∷ []) (true ∷ false ∷ [])
+
 -- a call goes to the unit of its district where that is free, else to the other
 abbrev opposite_lists : PlanParts
-opposite_lists = two_districts (row_of_units (0 ∷ 1 ∷ []) (true ∷ true ∷ []) ∷ row_of_units (1 ∷ 0 ∷ []) (true ∷ true ∷ []) ∷ [])
+opposite_lists =
+    two_districts (row_of_units (0 ∷ 1 ∷ []) (true ∷ true ∷ [])) (row_of_units (1 ∷ 0 ∷ []) (true ∷ true ∷ []))
 
 abbrev opposite_lists_masses : List ℕ
 opposite_lists_masses = 9 ∷ 3 ∷ 3 ∷ 2 ∷ []
 
 pub opposite_lists_solution : IsSolution opposite_lists opposite_lists_masses 0
 opposite_lists_solution = record {
-  words = record { one_each = refl; positive = omega arith; balanced = each_below 4 _ ((((tt, refl), refl), refl), refl) };
+  words = record {
+    one_each = refl;
+    positive = omega arith;
+    balanced = each_below 4 _ ((((tt, refl), refl), refl), refl);
+  };
   tail = refl;
 }
 
@@ -79,16 +90,20 @@ pub opposite_lists_without :
     × (is_without opposite_lists (measure.TravelDistrict 1) ≡ false)
 opposite_lists_without = (refl, refl)
 
--- a call goes to either free unit with equal probability
+-- a call goes to either free unit
 abbrev common_group : PlanParts
-common_group = two_districts (row_of_units (0 ∷ 1 ∷ []) (true ∷ false ∷ []) ∷ row_of_units (0 ∷ 1 ∷ []) (true ∷ false ∷ []) ∷ [])
+common_group = two_districts either_unit either_unit
 
 abbrev common_group_masses : List ℕ
 common_group_masses = 9 ∷ 3 ∷ 3 ∷ 2 ∷ []
 
 pub common_group_solution : IsSolution common_group common_group_masses 0
 common_group_solution = record {
-  words = record { one_each = refl; positive = omega arith; balanced = each_below 4 _ ((((tt, refl), refl), refl), refl) };
+  words = record {
+    one_each = refl;
+    positive = omega arith;
+    balanced = each_below 4 _ ((((tt, refl), refl), refl), refl);
+  };
   tail = refl;
 }
 
@@ -128,7 +143,7 @@ pub common_group_travel :
     × common_group_holds (measure.TravelDistrict 1) 179999 180001
 common_group_travel = omega arith
 
--- All calls come from one atom, of unit A's district, and ask for A first. Unit B has no district.
+-- all calls come from one atom, of A's district, and ask for A first; unit B has no district
 abbrev one_atom : PlanParts
 one_atom = record {
   line = line.Zero;
@@ -146,7 +161,11 @@ one_atom_masses = 45 ∷ 24 ∷ 6 ∷ 10 ∷ []
 
 pub one_atom_solution : IsSolution one_atom one_atom_masses 0
 one_atom_solution = record {
-  words = record { one_each = refl; positive = omega arith; balanced = each_below 4 _ ((((tt, refl), refl), refl), refl) };
+  words = record {
+    one_each = refl;
+    positive = omega arith;
+    balanced = each_below 4 _ ((((tt, refl), refl), refl), refl);
+  };
   tail = refl;
 }
 
