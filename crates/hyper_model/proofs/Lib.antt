@@ -18,3 +18,8 @@ pub mod Masses
 pub mod Denominators
 pub mod Queue
 pub mod Levels
+pub mod Worked
+mod WorkedOneUnit
+mod WorkedTwoUnits
+mod WorkedThreeUnits
+mod WorkedMixed
