@@ -101,7 +101,11 @@ impl Lists {
         ensures { result.now ≡ take (self.now.units - 1) (drop 1 (row_of self.now atom).begins) }
     {
         let row = &self.rows[atom];
-        if self.units == 0 { &row.begins[..0] } else { &row.begins[1..self.units] }
+        if self.units == 0 {
+            &row.begins[..0]
+        } else {
+            &row.begins[1..self.units]
+        }
     }
 
     /// Puts a unit at this place, and leaves all else.

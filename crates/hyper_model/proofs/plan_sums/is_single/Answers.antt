@@ -1,4 +1,4 @@
-use Rattle.std.proofs.Common.{◌≡◌, ◌-◌, ◌∙◌, ap, sym, Bool, List, take, drop}
+use Rattle.std.proofs.Common.{◌-◌, ◌∙◌, ap, sym, Bool, List, take, drop}
 use Rattle.std.specs.List.{list_all}
 use Rattle.hyper_model.specs.Groups.{row_of, list_of}
 use Rattle.hyper_model.proofs.Grouping.{are_single_from}
