@@ -2,10 +2,13 @@ pub mod Name
 pub mod Sums
 pub mod Grid
 pub mod Groups
+pub mod ListRows
 pub mod Plans
 pub mod Words
 pub mod Rates
 pub mod Solutions
+pub mod Tables
+pub mod Laws
 pub mod Measures
 pub mod Enclosures
 pub mod Acceptance
