@@ -115,7 +115,7 @@ from_within P (unit ∷ units) (begin ∷ begins) h =
 -- so many units as the list has of a kind, all groups have together
 pub put_count : (p : ℕ → Bool) (unit : ℕ) (alone : Bool) (groups : List (List ℕ))
     → sum_by (λ group. count_by p group) (put_before unit alone groups)
-        ≡ cond (p unit) 1 0 + sum_by (λ group. count_by p group) groups
+    ≡ cond (p unit) 1 0 + sum_by (λ group. count_by p group) groups
 put_count p unit alone [] = omega arith
 put_count p unit true (group ∷ groups) =
     omega (arith, sum_by-cons (λ (g : List ℕ). count_by p g) (unit ∷ []) (group ∷ groups), sum_by-cons (λ (x : ℕ). cond (p x) 1 0) unit [])

@@ -11,8 +11,8 @@ term_le_sum zero f i h = omega arith
 term_le_sum (suc n) f i h =
     let t : (i < n) ⊎ (i ≡ n) = grind arith in
     elim t [
-      inl l ↦ omega (arith, term_le_sum n f i l)
-    | inr e ↦ omega (arith, ap f e)
+      | inl l ↦ omega (arith, term_le_sum n f i l)
+      | inr e ↦ omega (arith, ap f e)
     ]
 
 -- the first unit serves

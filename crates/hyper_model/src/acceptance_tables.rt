@@ -64,7 +64,9 @@ fn stands_each_once(list: &[u8], units: usize) -> bool
 fn places_of(list: &[u8], unit: usize) -> usize
     ensures { result ≡ places_in list.now unit }
 {
-    list.iter().filter(|member| usize::from(**member) == unit).count()
+    list.iter()
+        .filter(|member| usize::from(**member) == unit)
+        .count()
 }
 
 pub(crate) fn has_locations(parts: &PlanParts) -> bool

@@ -1,4 +1,7 @@
-use crate::{Atom, Atoms, Enclosed, Enclosures, Lists, Measure, Name, Names, Plan, PlanParts, Table, Unit, Units};
+use crate::{
+    Atom, Atoms, Enclosed, Enclosures, Lists, Measure, Name, Names, Plan, PlanParts, Table, Unit,
+    Units,
+};
 
 fn shared<T: Send + Sync>(_value: &T) {}
 

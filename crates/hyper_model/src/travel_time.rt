@@ -13,14 +13,14 @@ pub fn mean_thousandths(located: &Table, travel: &Table, unit: usize, atom: usiz
     requires places { located.now.cols ≡ travel.now.rows }
     requires whole { sum_below located.now.cols (cell located.now unit) ≡ 1000 }
     ensures mean { result ≡ mean_travel_in located.now travel.now unit atom }
-    ensures most {
-        (longest : ℕ) → ((k : ℕ) → k < travel.now.rows → cell travel.now k atom ≤ longest)
-            → result ≤ 1000 * longest
-    }
+    ensures most { (longest : ℕ) → ((k : ℕ) → k < travel.now.rows → cell travel.now k atom ≤ longest)
+        → result ≤ 1000 * longest }
 {
     let mut total = 0;
     for k in 0..located.cols() {
-        total += u64::from(located.get(unit, k)) * u64::from(travel.get(k, atom));
+        let thousandths = u64::from(located.get(unit, k));
+        let seconds = u64::from(travel.get(k, atom));
+        total += thousandths * seconds;
     }
     total
 }

@@ -1,4 +1,4 @@
-use Rattle.std.proofs.Common.{◌≡◌, ◌∙◌, ◌<◌, ℕ, sym, refl, arith, below_more}
+use Rattle.std.proofs.Common.{◌≡◌, ◌∙◌, sym, refl, below_more}
 use Rattle.std.proofs.lemmas.Slice.Eq.{bytes_eq-Decides}
 use Rattle.hyper_model.specs.Acceptance.{atom_name}
 use Rattle.hyper_model.proofs.Accepting.{atom_name_at}
@@ -17,4 +17,4 @@ loop-i-preserved c =
     let there = atom_name_at c.args.parts.now c.args.j c.get-atom.result.now c.get-atom.ensures in
     below_more (λ i. atom_name c.args.parts.now i ≡ atom_name c.args.parts.now c.args.j → ⊥) c.loop-i.i c.loop-i.invariant
     (λ e. let tests = (bytes_eq-Decides c.get.result.now.name c.get-atom.result.now.name).1 (sym here ∙ e ∙ there) in
-        let f : ⊥ = cc in f)
+    let f : ⊥ = cc in f)

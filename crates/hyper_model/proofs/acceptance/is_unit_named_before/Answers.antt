@@ -1,4 +1,4 @@
-use Rattle.std.proofs.Common.{◌≡◌, ◌∙◌, ◌<◌, ℕ, sym, refl, arith, below_more}
+use Rattle.std.proofs.Common.{◌≡◌, ◌∙◌, sym, refl, below_more}
 use Rattle.std.proofs.lemmas.Slice.Eq.{bytes_eq-Decides}
 use Rattle.hyper_model.specs.Acceptance.{unit_name}
 use Rattle.hyper_model.proofs.Accepting.{unit_name_at}
@@ -17,4 +17,4 @@ loop-m-preserved c =
     let there = unit_name_at c.args.parts.now c.args.n c.get-unit.result.now c.get-unit.ensures in
     below_more (λ i. unit_name c.args.parts.now i ≡ unit_name c.args.parts.now c.args.n → ⊥) c.loop-m.m c.loop-m.invariant
     (λ e. let tests = (bytes_eq-Decides c.get.result.now.name c.get-unit.result.now.name).1 (sym here ∙ e ∙ there) in
-        let f : ⊥ = cc in f)
+    let f : ⊥ = cc in f)

@@ -1,12 +1,13 @@
-use Rattle.std.proofs.Common.{◌≡◌, ◌∙◌, ◌<◌, ℕ, sym, refl, arith, below_more}
+use Rattle.std.proofs.Common.{◌≡◌, ◌∙◌, ◌<◌, sym, refl, arith, below_more}
 use Rattle.hyper_model.specs.Acceptance.{places_in}
 use Rattle.hyper_model.proofs.acceptance_tables.stands_each_once.Goals as goal
 
 pub returns-then-places_of-ne1 : goal.returns-then-places_of-ne1
 returns-then-places_of-ne1 c =
-    let inside : c.loop-unit.unit < c.args.units = omega arith in
-    (λ e. absurd (let f : ⊥ = cc in f),
-     λ h. absurd (c.if-places_of-ne1.true (c.places_of.ensures ∙ h c.loop-unit.unit inside)))
+    let inside : c.loop-unit.unit < c.args.units = omega arith in (
+      λ e. absurd (let f : ⊥ = cc in f),
+      λ h. absurd (c.if-places_of-ne1.true (c.places_of.ensures ∙ h c.loop-unit.unit inside)),
+    )
 
 pub loop-unit-preserved : goal.loop-unit-preserved
 loop-unit-preserved c =
