@@ -1,4 +1,4 @@
--- Who takes a call: a free unit of the first group that has one. The taker_count of a call share it without rest.
+-- Who takes a call: a free unit of the first group that has one. The takers of a call share it without rest.
 use Rattle.std.proofs.Common.{◌≡◌, ◌≢◌, ℕ, zero, suc, ◌+◌, ◌*◌, ◌/◌, ◌<◌, ◌≤◌, ◌⊎◌, Bool, true, false, not, cond, eqb, ◌&&◌, ◌||◌, List, [], ◌∷◌, length, refl, sym, ap, ◌∙◌, inl, inr, true≢false, eqb-true, arith}
 use Rattle.std.specs.Prelude.{All, sum_by, count_by, ◌==◌}
 use Rattle.std.specs.List.{list_any, list_all}
@@ -143,7 +143,7 @@ split_positive p = one (all_below (atoms p) (λ j. are_single (groups_of p j)))
     one true = omega arith
     one false = omega arith
 
--- the taker_count of a call share it without rest
+-- the takers of a call share it without rest
 pub portion_is : (p : PlanParts) → IsAccepted p → (j w : ℕ) → j < atoms p → 0 < taker_count p j w
     → taker_count p j w * portion p j w ≡ split p
 portion_is p a j w l some = on_test (all_below (atoms p) (λ i. are_single (groups_of p i)))
