@@ -9,17 +9,19 @@ use Rattle.hyper_model.specs.declared.kinds.Measure.{Measure}
 use Rattle.hyper_model.specs.declared.kinds.Measure.TheVariants as measure
 use Rattle.hyper_model.specs.declared.kinds.Found.TheVariants as found
 use Rattle.hyper_model.specs.declared.kinds.Enclosed.{Enclosed}
+use Rattle.hyper_model.specs.declared.parts.Unit as declared_unit
+use Rattle.hyper_model.specs.declared.parts.Atom.{Atom}
 use Rattle.hyper_model.specs.declared.parts.PlanParts.{PlanParts}
 use Rattle.hyper_model.specs.Plans.{all_calls, all_service}
 
 -- the plan of a unit that is always at its one atom
-abbrev pub one_unit_plan : List ℕ → ℕ → List ℕ → ℕ → ℕ → ℕ → ℕ → PlanParts
-one_unit_plan unit service atom calls x y seconds = record {
+abbrev pub one_unit_plan : declared_unit.Unit → Atom → ℕ → PlanParts
+one_unit_plan unit atom seconds = record {
     line = line.Zero;
     rule = rule.Given;
     period = 3600;
-    units = record { name = unit; rate = service } ∷ [];
-    atoms = record { name = atom; rate = calls; x = x; y = y; district = 0 } ∷ [];
+    units = unit ∷ [];
+    atoms = atom ∷ [];
     lists = first_lists 1 1;
     located = record { rows = 1; cols = 1; cells = 1000 ∷ [] };
     travel = record { rows = 1; cols = 1; cells = seconds ∷ [] } }
