@@ -3,3 +3,5 @@ mod WorkedOneUnit
 mod WorkedTwoUnits
 mod WorkedThreeUnits
 mod WorkedMixed
+mod WorkedAccepted
+mod WorkedGroups
