@@ -23,3 +23,5 @@ mod WorkedOneUnit
 mod WorkedTwoUnits
 mod WorkedThreeUnits
 mod WorkedMixed
+mod WorkedAccepted
+mod WorkedGroups
