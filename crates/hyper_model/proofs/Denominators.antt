@@ -1,5 +1,5 @@
 -- In every solution each measure that has a value is a ratio: its denominator is positive.
-use Rattle.std.proofs.Common.{◌≡◌, ℕ, ◌+◌, ◌-◌, ◌*◌, ◌<◌, ◌≤◌, ◌==◌, Bool, true, false, List, refl, sym, ap, ◌∙◌, arith}
+use Rattle.std.proofs.Common.{◌≡◌, ℕ, ◌-◌, ◌*◌, ◌<◌, ◌==◌, false, List, refl, arith}
 use Rattle.std.proofs.lemmas.Bool.{eqb-false}
 use Rattle.std.proofs.Math.Nat.{mul-pos}
 use Rattle.hyper_model.specs.declared.kinds.Line.{Line}
@@ -32,7 +32,7 @@ module _ (p : PlanParts) (a : IsAccepted p) (xs : List ℕ) (z : ℕ) (s : IsSol
 
   of_line : (l : Line) → p.line ≡ l
       → (0 < (loss_on l p (mass_in xs) z).denominator) × (0 < (delay_on l p (mass_in xs) z).denominator)
-        × (0 < (queue_on l p (mass_in xs) z).denominator) × (0 < (wait_on l p (mass_in xs) z).denominator)
+      × (0 < (queue_on l p (mass_in xs) z).denominator) × (0 < (wait_on l p (mass_in xs) z).denominator)
   of_line line.Zero e = (some_mass, omega arith, omega arith, omega arith)
   of_line line.Infinite e =
       let idle : 0 < all_service p - all_calls p = let more = stable_of p a e in omega (arith, more) in

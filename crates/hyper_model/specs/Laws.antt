@@ -1,6 +1,5 @@
 -- The laws of the model, for every accepted plan. That a solution exists is `HasSolution`.
 use Rattle.std.specs.Prelude.{◌≡◌, ◌≢◌, ℕ, ◌+◌, ◌*◌, ◌^◌, ◌<◌, ◌≤◌, ◌==◌, if◌then◌else◌, List}
-use Rattle.hyper_model.specs.declared.kinds.Line.{Line}
 use Rattle.hyper_model.specs.declared.kinds.Line.TheVariants as line
 use Rattle.hyper_model.specs.declared.parts.PlanParts.{PlanParts}
 use Rattle.hyper_model.specs.Sums.{sum_below}
@@ -36,7 +35,7 @@ pub record SolvesQueue (p : PlanParts) (room : ℕ) (x q : ℕ → ℕ) : Type 0
   pub nobody_waits : q 0 ≡ x (full_word p)
   pub not_full : (w : ℕ) → w < words p → w ≢ full_word p → IsBalancedWord p x w
   pub full :
-    x (full_word p) * leaving p (full_word p) + split p * all_calls p * x (full_word p)
+      x (full_word p) * leaving p (full_word p) + split p * all_calls p * x (full_word p)
       ≡ coming p x (full_word p) + split p * all_service p * q 1
   pub between : (k : ℕ) → k + 1 < room
       → q (k + 1) * (all_calls p + all_service p) ≡ all_calls p * q k + all_service p * q (k + 2)
