@@ -1,12 +1,14 @@
 -- The laws of the model, for every accepted plan. That a solution exists is `HasSolution`.
 use Rattle.std.specs.Prelude.{◌≡◌, ◌≢◌, ℕ, ◌+◌, ◌*◌, ◌^◌, ◌<◌, ◌≤◌, ◌==◌, if◌then◌else◌, List}
 use Rattle.hyper_model.specs.declared.kinds.Line.TheVariants as line
+use Rattle.hyper_model.specs.declared.kinds.Measure.{Measure}
 use Rattle.hyper_model.specs.declared.parts.PlanParts.{PlanParts}
 use Rattle.hyper_model.specs.Sums.{sum_below}
 use Rattle.hyper_model.specs.Plans.{units, service_of, all_calls, all_service, split}
 use Rattle.hyper_model.specs.Words.{words, is_busy, full_word}
 use Rattle.hyper_model.specs.Rates.{leaving, coming, IsBalancedWord}
 use Rattle.hyper_model.specs.Solutions.{mass_in, IsSolution}
+use Rattle.hyper_model.specs.Measures.{Ratio, measure_of}
 
 -- in every solution each word has a mass
 abbrev pub AreWordsPositive : PlanParts → Type 0
@@ -28,6 +30,15 @@ abbrev pub IsTailProportional : PlanParts → Type 0
 IsTailProportional p =
     (xs ys : List ℕ) (z t : ℕ) → IsSolution p xs z → IsSolution p ys t
     → (v : ℕ) → v < words p → mass_in xs v * t ≡ z * mass_in ys v
+
+-- and so each measure has one value: the ratios of two solutions are equal
+abbrev pub IsSameRatio : Ratio → Ratio → Type 0
+IsSameRatio r s = r.numerator * s.denominator ≡ s.numerator * r.denominator
+
+abbrev pub HaveOneValue : PlanParts → Type 0
+HaveOneValue p =
+    (xs ys : List ℕ) (z t : ℕ) → IsSolution p xs z → IsSolution p ys t
+    → (m : Measure) → IsSameRatio (measure_of p (mass_in xs) z m) (measure_of p (mass_in ys) t m)
 
 -- The fleet with places for `room` waiting calls: x(w) is the mass of the word w, and q(k) that of the state in
 -- which all units are busy and k calls wait. Each state has its balance.

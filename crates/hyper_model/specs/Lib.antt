@@ -7,6 +7,6 @@ pub mod Words
 pub mod Rates
 pub mod Solutions
 pub mod Tables
-pub mod Laws
 pub mod Measures
+pub mod Laws
 pub mod Enclosures
