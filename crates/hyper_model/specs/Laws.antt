@@ -31,10 +31,11 @@ IsTailProportional p =
     (xs ys : List ℕ) (z t : ℕ) → IsSolution p xs z → IsSolution p ys t
     → (v : ℕ) → v < words p → mass_in xs v * t ≡ z * mass_in ys v
 
--- and so each measure has one value: the ratios of two solutions are equal
+-- equal ratios, by cross-multiplication
 abbrev pub IsSameRatio : Ratio → Ratio → Type 0
 IsSameRatio r s = r.numerator * s.denominator ≡ s.numerator * r.denominator
 
+-- and so each measure has one value, whichever solution it is taken from
 abbrev pub HaveOneValue : PlanParts → Type 0
 HaveOneValue p =
     (xs ys : List ℕ) (z t : ℕ) → IsSolution p xs z → IsSolution p ys t
