@@ -1,3 +1,11 @@
+-- lemmas, each file on one subject
+pub mod Grids
+pub mod Grouping
+pub mod ListRows
+pub mod NameText
+pub mod PlanSums
+pub mod Accepting
+pub mod TravelTimes
 pub mod Sums
 pub mod Tables
 pub mod Chains
@@ -12,3 +20,8 @@ pub mod Denominators
 pub mod OneValue
 pub mod Queue
 pub mod Levels
+pub mod Worked
+mod WorkedOneUnit
+mod WorkedTwoUnits
+mod WorkedThreeUnits
+mod WorkedMixed

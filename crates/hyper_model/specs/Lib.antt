@@ -2,6 +2,7 @@ pub mod Name
 pub mod Sums
 pub mod Grid
 pub mod Groups
+pub mod ListRows
 pub mod Plans
 pub mod Words
 pub mod Rates
@@ -10,3 +11,5 @@ pub mod Tables
 pub mod Measures
 pub mod Laws
 pub mod Enclosures
+pub mod Acceptance
+pub mod TravelTimes

@@ -1,6 +1,7 @@
 -- The measures of Larson's model, each as a numerator over a denominator (Larson 1974; Larson and Odoni,
--- Urban Operations Research, chapter 5). x(w) is the mass of the word w, z the mass of the waiting calls.
-use Rattle.std.specs.Prelude.{◌≡◌, ℕ, ◌+◌, ◌-◌, ◌*◌, ◌≤◌, ◌==◌, Bool, true, false, not, if◌then◌else◌}
+-- Urban Operations Research, chapter 5). x(w) is the mass of the word w with nobody waiting, z the mass of
+-- all states in which a call waits.
+use Rattle.std.specs.Prelude.{◌≡◌, ℕ, ◌+◌, ◌-◌, ◌*◌, ◌<◌, ◌≤◌, ◌==◌, Bool, true, false, not, if◌then◌else◌}
 use Rattle.hyper_model.specs.declared.kinds.Line.{Line}
 use Rattle.hyper_model.specs.declared.kinds.Line.TheVariants as line
 use Rattle.hyper_model.specs.declared.kinds.Measure.{Measure}
@@ -38,12 +39,13 @@ base_on line.Infinite p x z = mass p x z
 abbrev pub base : PlanParts → (ℕ → ℕ) → ℕ → ℕ
 base p x z = base_on p.line p x z
 
--- the mass of the words in which a call of atom j goes to unit n at once, each with unit n's share of it
+-- the mass of the words in which a call of atom j can go to unit n at once, each times the unit's share of
+-- the call: its portion of `split p` shares
 abbrev pub taken_mass : PlanParts → (ℕ → ℕ) → ℕ → ℕ → ℕ
 taken_mass p x n j = sum_below (words p) (λ w. if takes p j w n then x w * portion p j w else 0)
 
--- the flow of calls of atom j that unit n answers, times all service: at once, or out of the queue, from
--- which each unit takes a part of the calls that is its part of all service
+-- the flow of calls of atom j that unit n answers, times all service and times `split p`: those answered at
+-- once, and those out of the queue, of which each unit takes the part that its service is of all service
 abbrev pub dispatched : PlanParts → (ℕ → ℕ) → ℕ → ℕ → ℕ → ℕ
 dispatched p x z n j = calls_of p j * (all_service p * taken_mass p x n j + split p * service_of p n * queued p x z)
 
@@ -61,43 +63,45 @@ dispatched_by p x z n = sum_below (atoms p) (dispatched p x z n)
 abbrev pub mean_travel : PlanParts → ℕ → ℕ → ℕ
 mean_travel p n j = sum_below (atoms p) (λ k. located p n k * travel p k j)
 
--- the travel time to atom j from a call's place, weighed by the rates of the calls; and its sum over the
--- calls' atoms. A unit that takes a call out of the queue starts where its last call was.
+-- the seconds of travel to atom j, summed over the atoms that a call comes from, each times its rate
 abbrev pub travel_from_calls : PlanParts → ℕ → ℕ
 travel_from_calls p j = sum_below (atoms p) (λ i. calls_of p i * travel p i j)
 
+-- The same summed over the atoms j, each times its rate: the mean travel time from one call's place to the
+-- next one's, times the square of all calls. A unit that takes a call out of the queue starts where its last
+-- call was.
 abbrev pub travel_among_calls : PlanParts → ℕ
 travel_among_calls p = sum_below (atoms p) (λ j. calls_of p j * travel_from_calls p j)
 
--- the travel times of unit n's calls that it answers at once
+-- the flow of calls that unit n answers at once, each times the unit's mean travel time to its atom
 abbrev pub travelled : PlanParts → (ℕ → ℕ) → ℕ → ℕ
 travelled p x n = sum_below (atoms p) (λ j. calls_of p j * taken_mass p x n j * mean_travel p n j)
 
--- the numerator of the mean travel time to atom j
+-- the numerator of the mean travel time to atom j, over a denominator that is the same for each atom
 abbrev pub travel_to : PlanParts → (ℕ → ℕ) → ℕ → ℕ → ℕ
 travel_to p x z j =
     all_calls p * sum_below (units p) (λ n. taken_mass p x n j * mean_travel p n j)
     + 1000 * split p * queued p x z * travel_from_calls p j
 
--- a measure of a line that it does not belong to is 0
-abbrev pub none : Ratio
-none = record { numerator = 0; denominator = 1 }
+-- 0, as a ratio: a measure that the plan's line does not have
+abbrev pub zero_ratio : Ratio
+zero_ratio = record { numerator = 0; denominator = 1 }
 
 abbrev pub loss_on : Line → PlanParts → (ℕ → ℕ) → ℕ → Ratio
 loss_on line.Zero p x z = record { numerator = x (full_word p); denominator = mass p x z }
-loss_on line.Infinite p x z = none
+loss_on line.Infinite p x z = zero_ratio
 
 abbrev pub delay_on : Line → PlanParts → (ℕ → ℕ) → ℕ → Ratio
-delay_on line.Zero p x z = none
+delay_on line.Zero p x z = zero_ratio
 delay_on line.Infinite p x z = record { numerator = x (full_word p) + z; denominator = mass p x z }
 
 abbrev pub queue_on : Line → PlanParts → (ℕ → ℕ) → ℕ → Ratio
-queue_on line.Zero p x z = none
+queue_on line.Zero p x z = zero_ratio
 queue_on line.Infinite p x z =
     record { numerator = z * all_service p; denominator = mass p x z * (all_service p - all_calls p) }
 
 abbrev pub wait_on : Line → PlanParts → (ℕ → ℕ) → ℕ → Ratio
-wait_on line.Zero p x z = none
+wait_on line.Zero p x z = zero_ratio
 wait_on line.Infinite p x z = record {
     numerator = p.period * z * all_service p;
     denominator = mass p x z * (all_service p - all_calls p) * all_calls p }
@@ -154,10 +158,22 @@ pub record ContainsRatio (lo hi scale : ℕ) (r : Ratio) : Type 0 where
   pub least : lo * r.denominator ≤ scale * r.numerator
   pub most : scale * r.numerator ≤ hi * r.denominator
 
+-- the unit and the atom that the measure speaks of are the plan's
+abbrev pub IsInRange : PlanParts → Measure → Type 0
+IsInRange p (measure.Workload n) = n < units p
+IsInRange p (measure.Dispatch n j) = (n < units p) × (j < atoms p)
+IsInRange p (measure.InterdistrictUnit n) = n < units p
+IsInRange p (measure.InterdistrictDistrict n) = n < units p
+IsInRange p (measure.TravelAtom j) = j < atoms p
+IsInRange p (measure.TravelUnit n) = n < units p
+IsInRange p (measure.TravelDistrict n) = n < units p
+IsInRange p m = Prim.Unit {0}
+
 abbrev pub IsFoundOf : PlanParts → (ℕ → ℕ) → ℕ → Measure → Found → Type 0
-IsFoundOf p x z m (found.Ends lo hi) = ContainsRatio lo hi (scale_of m) (measure_of p x z m)
+IsFoundOf p x z m (found.Ends lo hi) =
+    (is_without p m ≡ false) × ContainsRatio lo hi (scale_of m) (measure_of p x z m)
 IsFoundOf p x z m found.Without = is_without p m ≡ true
 
--- the ends contain the measure, for these masses; no ends stand only where there is no value
+-- for these masses the measure has a value, and the ends contain it; or nothing was found, and it has none
 abbrev pub IsContained : PlanParts → (ℕ → ℕ) → ℕ → Enclosed → Type 0
 IsContained p x z e = IsFoundOf p x z e.measure e.found

@@ -13,8 +13,3 @@ is_short bytes = nat_le 1 (length bytes) && nat_le (length bytes) 32
 -- the name of a unit, of an atom or of a text
 abbrev pub is_name : List ℕ → Bool
 is_name bytes = is_short bytes && list_all may_stand bytes && is_utf8 bytes
-
--- names in a row, and how many more there is room for
-pub record NameList : Type 0 where
-  pub items : List (List ℕ)
-  pub spare : ℕ

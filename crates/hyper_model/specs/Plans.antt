@@ -10,6 +10,7 @@ use Rattle.hyper_model.specs.declared.parts.Unit as declared_unit
 use Rattle.hyper_model.specs.declared.parts.Atom.{Atom}
 use Rattle.hyper_model.specs.declared.parts.PlanParts.{PlanParts}
 
+-- what stands past the last unit and the last atom
 abbrev pub no_unit : declared_unit.Unit
 no_unit = record { name = []; rate = 0 }
 
@@ -47,6 +48,7 @@ all_service p = sum_below (units p) (service_of p)
 abbrev pub district_of : PlanParts → ℕ → ℕ
 district_of p j = (atom_at p j).district
 
+-- whether atom j is in unit n's district
 abbrev pub is_inside : PlanParts → ℕ → ℕ → Bool
 is_inside p n j = district_of p j == n
 
@@ -66,18 +68,20 @@ located p n k = cell p.located n k
 abbrev pub travel : PlanParts → ℕ → ℕ → ℕ
 travel p k j = cell p.travel k j
 
--- A number by which all rates are multiplied so that a call's rate can be shared equally among the free
--- units of a group: 1 where no group has two units, else one that each number from 1 to 12 divides.
+-- whether each group has one unit
 abbrev pub are_single : List (List ℕ) → Bool
 are_single groups = list_all (λ group. length group == 1) groups
 
+-- whether each number below n passes the test
 abbrev pub all_below : ℕ → (ℕ → Bool) → Bool
 all_below n test = sum_below n (λ k. if test k then 0 else 1) == 0
 
+-- The number by which all rates are multiplied, so that the free units of a group share a call equally in
+-- whole numbers: 1 where every group has one unit, else 27,720, which each number from 1 to 12 divides.
 abbrev pub split : PlanParts → ℕ
 split p = if all_below (atoms p) (λ j. are_single (groups_of p j)) then 1 else 27720
 
--- a queue without end needs more service than calls
+-- an infinite line needs more service than calls
 abbrev pub IsStable : Line → ℕ → ℕ → Type 0
 IsStable line.Zero calls service = Prim.Unit {0}
 IsStable line.Infinite calls service = calls < service
@@ -86,7 +90,7 @@ pub record IsBetween (least most value : ℕ) : Type 0 where
   pub low : least ≤ value
   pub high : value ≤ most
 
--- 1 to 12 units with names of their own, each with a service rate
+-- 1 to 12 units with names of their own, each with a service rate, of 1,000,000 in all at most
 pub record HasUnits (p : PlanParts) : Type 0 where
   pub number : IsBetween 1 12 (units p)
   pub named : (n m : ℕ) → n < units p → m < units p → (unit_at p n).name ≡ (unit_at p m).name → n ≡ m
@@ -100,7 +104,7 @@ pub record IsPlaced (n : ℕ) (atom : Atom) : Type 0 where
   pub y : atom.y ≤ 1000000
   pub district : atom.district < n
 
--- 1 to 200 atoms with names of their own
+-- 1 to 200 atoms with names of their own, and 1 to 1,000,000 calls in all
 pub record HasAtoms (p : PlanParts) : Type 0 where
   pub number : IsBetween 1 200 (atoms p)
   pub named : (i j : ℕ) → i < atoms p → j < atoms p → (atom_at p i).name ≡ (atom_at p j).name → i ≡ j
@@ -137,6 +141,6 @@ pub record IsAccepted (p : PlanParts) : Type 0 where
 -- an accepted plan with its sums of rates and its factor
 pub record IsSummed (p : PlanParts) (calls service factor : ℕ) : Type 0 where
   pub accepted : IsAccepted p
-  pub calls : calls ≡ all_calls p
-  pub service : service ≡ all_service p
-  pub factor : factor ≡ split p
+  pub same_calls : calls ≡ all_calls p
+  pub same_service : service ≡ all_service p
+  pub same_factor : factor ≡ split p

@@ -1,4 +1,5 @@
--- Solutions of the balance equations: masses of the words, in whole numbers, and of the waiting calls.
+-- Solutions of the balance equations: whole numbers as the masses of the words, and of the states in which
+-- a call waits.
 use Rattle.std.specs.Prelude.{◌≡◌, ℕ, ◌-◌, ◌*◌, ◌<◌, List, length, slice_index}
 use Rattle.hyper_model.specs.declared.kinds.Line.{Line}
 use Rattle.hyper_model.specs.declared.kinds.Line.TheVariants as line

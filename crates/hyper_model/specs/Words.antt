@@ -4,6 +4,7 @@ use Rattle.std.specs.List.{find, list_any}
 use Rattle.std.specs.Int.{bit_at}
 use Rattle.hyper_model.specs.declared.parts.PlanParts.{PlanParts}
 use Rattle.hyper_model.specs.Sums.{sum_below}
+use Rattle.hyper_model.specs.Groups.{GroupLists, list_of}
 use Rattle.hyper_model.specs.Plans.{units, atoms, groups_of, split}
 
 abbrev pub words : PlanParts → ℕ
@@ -26,6 +27,10 @@ turned word n = bit_xor word (2 ^ n)
 -- the first unit of a list that is free
 abbrev pub first_free_of : List ℕ → ℕ → Option ℕ
 first_free_of list word = find (is_free word) list
+
+-- the unit at the least place of an atom's list that is free, or none where all are busy
+abbrev pub first_free : GroupLists → ℕ → ℕ → Option ℕ
+first_free lists atom word = first_free_of (list_of lists atom) word
 
 abbrev pub has_free : List ℕ → ℕ → Bool
 has_free group word = list_any (is_free word) group

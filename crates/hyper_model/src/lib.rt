@@ -2,6 +2,8 @@
 //! plain types of a plan and of its measures, and the definitions and laws on which all proofs stand.
 #![tactic(auto)]
 
+mod acceptance;
+mod acceptance_tables;
 mod enclosure_list;
 mod grid;
 mod kinds;
@@ -9,8 +11,11 @@ mod laws;
 mod name;
 mod name_list;
 mod parts;
+mod plan_sums;
 mod plans;
 mod preference;
+mod sharing;
+mod travel_time;
 
 pub use enclosure_list::Enclosures;
 pub use grid::Table;
@@ -21,6 +26,11 @@ pub use name_list::Names;
 pub use parts::{Atom, Atoms, PlanParts, Unit, Units};
 pub use plans::Plan;
 pub use preference::Lists;
+pub use sharing::{
+    shows_shared_measure, shows_shared_names, shows_shared_parts, shows_shared_plan,
+    shows_shared_tables,
+};
+pub use travel_time::mean_thousandths;
 
 /// The most units that a plan has.
 pub const MOST_UNITS: usize = 12;

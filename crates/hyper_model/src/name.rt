@@ -2,7 +2,7 @@ ghost use Rattle.std.specs.Prelude.{◌≡◌, ◌+◌, ◌<◌, ◌≤◌, ◌�
 ghost use Rattle.std.specs.List.{list_all};
 ghost use Rattle.std.specs.Result.{IsErrOf};
 ghost use Rattle.std.specs.String.{string_bytes};
-ghost use Rattle.hyper_model.specs.Name.{is_name, may_stand, is_short, NameList};
+ghost use Rattle.hyper_model.specs.Name.{is_name, may_stand, is_short};
 
 use std::alloc::{AllocError, Global};
 use std::fmt;
@@ -56,6 +56,15 @@ impl Name {
             Ok(text) => Ok(Name { text }),
             Err(_) => Err(NameEnd::NoMemory),
         }
+    }
+
+    /// The same name once more.
+    pub fn copied(&self, alloc: Global) -> Result<Name, AllocError>
+        ensures { IfOk result (λ name. name ≡ self.now) }
+    {
+        Ok(Name {
+            text: String::from_str(alloc, self.text())?,
+        })
     }
 
     /// Its text.

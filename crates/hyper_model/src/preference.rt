@@ -1,5 +1,3 @@
-ghost use Rattle.std.specs.Prelude.{◌≡◌, ◌<◌, ◌≤◌, ℕ, IfOk, length, vec_len, All};
-
 use std::alloc::{AllocError, Global};
 use std::marker::Model;
 
@@ -21,27 +19,26 @@ pub struct Lists {
 }
 
 impl Model for Lists {
-    ghost use Rattle.std.specs.Prelude.{ℕ, ◌≡◌, ◌≤◌, length, All};
     ghost use Rattle.hyper_model.specs.Groups.{GroupLists};
 
     ghost Value = { GroupLists };
 
-    ghost view = { λ a. record { units = a.units; rows = a.rows.items } };
+    ghost use Rattle.hyper_model.specs.ListRows.{lists_seen, IsRoomy};
 
-    ghost invariant = { λ a. (a.units ≤ 12) × (length a.rows.items ≤ 200) };
+    ghost view = { λ a. lists_seen a.units a.rows.items };
+
+    ghost invariant = { λ a. IsRoomy a.units a.rows.items };
 }
 
 impl Lists {
-    ghost use Rattle.std.specs.Prelude.{◌≡◌, ◌<◌, ◌≤◌, ℕ, true, IfOk, length};
-    ghost use Rattle.hyper_model.specs.Groups.{member_at, begins_at, SetsMember, JoinsGroup};
+    ghost use Rattle.std.specs.Prelude.{◌≡◌, ◌<◌, ◌≤◌, ℕ, IfOk, length, drop};
+    ghost use Rattle.hyper_model.specs.Groups.{row_of, list_of, member_at, begins_at, first_lists, with_member, with_joined, IsRegular};
 
     /// Lists with the unit 0 at every place, each in a group of its own.
     pub fn of(alloc: Global, atoms: usize, units: usize) -> Result<Lists, AllocError>
         requires atoms { atoms ≤ 200 }
         requires units { units ≤ 12 }
-        ensures size { IfOk result (λ lists. (length lists.rows ≡ atoms) × (lists.units ≡ units)) }
-        ensures zeros { IfOk result (λ lists. (j k : ℕ) → j < atoms → k < units → member_at lists j k ≡ 0) }
-        ensures single { IfOk result (λ lists. (j k : ℕ) → j < atoms → k < units → begins_at lists j k ≡ true) }
+        ensures { IfOk result (λ lists. lists ≡ first_lists atoms units) }
     {
         let row = ListRow {
             members: [0; 12],
@@ -63,6 +60,7 @@ impl Lists {
     pub fn units(&self) -> usize
         ensures units { result ≡ self.now.units }
         ensures most { result ≤ 12 }
+        ensures regular { IsRegular self.now }
     {
         self.units
     }
@@ -76,7 +74,7 @@ impl Lists {
         self.rows[atom].members[place]
     }
 
-    /// Whether a group begins at this place. One always begins at the first.
+    /// Whether a group begins at this place: so at each place until it is joined.
     pub fn begins(&self, atom: usize, place: usize) -> bool
         requires atom { atom < length self.now.rows }
         requires place { place < self.now.units }
@@ -85,11 +83,31 @@ impl Lists {
         self.rows[atom].begins[place]
     }
 
+    /// The units of an atom's list, in order.
+    pub fn list(&self, atom: usize) -> &[u8]
+        requires { atom < length self.now.rows }
+        ensures units { result.now ≡ list_of self.now atom }
+        ensures one_each { length (list_of self.now atom) ≡ self.now.units }
+    {
+        let row = &self.rows[atom];
+        &row.members[..self.units]
+    }
+
+    /// Of each place of an atom's list but the first, whether a group begins there.
+    pub fn later_begins(&self, atom: usize) -> &[bool]
+        requires { atom < length self.now.rows }
+        ensures begins { result.now ≡ drop 1 (row_of self.now atom).begins }
+        ensures one_each { length (row_of self.now atom).begins ≡ self.now.units }
+    {
+        let row = &self.rows[atom];
+        &row.begins[self.units.min(1)..self.units]
+    }
+
     /// Puts a unit at this place, and leaves all else.
     pub fn set(&mut self, atom: usize, place: usize, unit: u8)
         requires atom { atom < length self.old.rows }
         requires place { place < self.old.units }
-        ensures { SetsMember self.old self.new atom place unit }
+        ensures { self.new ≡ with_member self.old atom place unit }
     {
         let row = &mut self.rows[atom];
         row.members[place] = unit;
@@ -101,7 +119,7 @@ impl Lists {
         requires atom { atom < length self.old.rows }
         requires place { place < self.old.units }
         requires later { 1 ≤ place }
-        ensures { JoinsGroup self.old self.new atom place }
+        ensures { self.new ≡ with_joined self.old atom place }
     {
         let row = &mut self.rows[atom];
         row.begins[place] = false;
