@@ -9,7 +9,7 @@ use Rattle.hyper_model.specs.declared.kinds.Line.TheVariants as line
 use Rattle.hyper_model.specs.declared.parts.PlanParts.{PlanParts}
 use Rattle.hyper_model.specs.Sums.{sum_below}
 use Rattle.hyper_model.specs.Plans.{units, atoms, service_of, calls_of, all_calls, all_service, is_inside, district_calls, split, IsAccepted}
-use Rattle.hyper_model.specs.Words.{words, is_busy, full_word, turned, takes, takers, portion}
+use Rattle.hyper_model.specs.Words.{words, is_busy, full_word, turned, takes, taker_count, portion}
 use Rattle.hyper_model.specs.Solutions.{mass_in, IsSolution}
 use Rattle.hyper_model.specs.Measures.{mass, queued_on, queued, base_on, base, taken_mass, dispatched, dispatched_inside, dispatched_outside, dispatched_by}
 use Rattle.hyper_model.proofs.Sums.{on_test, sum-same, sum-add, sum-scaled, sum-swap, sum_none, place_le_sum, positive_place, sum_split, choices_sum}
@@ -67,12 +67,12 @@ alone_takes p a n j l k =
           omega (arith, m.2, none_there)
     ]))
 
-pub portion_positive : (p : PlanParts) → IsAccepted p → (j w : ℕ) → j < atoms p → 0 < takers p j w → 0 < portion p j w
+pub portion_positive : (p : PlanParts) → IsAccepted p → (j w : ℕ) → j < atoms p → 0 < taker_count p j w → 0 < portion p j w
 portion_positive p a j w l some = elim (cases_lt 0 (portion p j w)) [
   | inl h ↦ h
   | inr g ↦
       let none : portion p j w ≡ 0 = omega arith in
-      absurd (omega (arith, portion_is p a j w l some, split_positive p, ap (λ c. takers p j w * c) none))
+      absurd (omega (arith, portion_is p a j w l some, split_positive p, ap (λ c. taker_count p j w * c) none))
 ]
 
 pub taken_positive : (p : PlanParts) → IsAccepted p → (xs : List ℕ) (z : ℕ) → IsSolution p xs z

@@ -10,7 +10,7 @@ use Rattle.std.proofs.Math.Nat.{mul-pos}
 use Rattle.hyper_model.specs.declared.parts.PlanParts.{PlanParts}
 use Rattle.hyper_model.specs.Sums.{sum_below}
 use Rattle.hyper_model.specs.Plans.{units, atoms, calls_of, all_calls, groups_of, are_single, all_below, split, IsAccepted}
-use Rattle.hyper_model.specs.Words.{is_busy, is_free, has_free, is_taker, takes, takers, portion}
+use Rattle.hyper_model.specs.Words.{is_busy, is_free, has_free, is_taker, takes, taker_count, portion}
 use Rattle.hyper_model.specs.Rates.{up}
 use Rattle.hyper_model.proofs.Sums.{on_test, sum-same, sum-scaled, sum-swap, sum_none, place_le_sum, positive_place, count_le, count_of_one, choices_sum}
 
@@ -157,19 +157,19 @@ split_positive p = one (all_below (atoms p) (λ j. are_single (groups_of p j)))
     one false = omega arith
 
 -- the takers of a call share it without rest
-pub portion_is : (p : PlanParts) → IsAccepted p → (j w : ℕ) → j < atoms p → 0 < takers p j w
-    → takers p j w * portion p j w ≡ split p
+pub portion_is : (p : PlanParts) → IsAccepted p → (j w : ℕ) → j < atoms p → 0 < taker_count p j w
+    → taker_count p j w * portion p j w ≡ split p
 portion_is p a j w l some = on_test (all_below (atoms p) (λ i. are_single (groups_of p i)))
     (λ t.
     let g : split p ≡ 1 = ap {B = ℕ} (λ c. cond c 1 27720) t in
-    let single : takers p j w ≤ 1 =
+    let single : taker_count p j w ≤ 1 =
     takers_single (units p) (groups_of p j) w (all_below_at (atoms p) (λ i. are_single (groups_of p i)) t j l) in
-    shared_one (takers p j w) (split p) some single g)
+    shared_one (taker_count p j w) (split p) some single g)
     (λ f.
     let g : split p ≡ 27720 = ap {B = ℕ} (λ c. cond c 1 27720) f in
-    let few : takers p j w ≤ 12 =
+    let few : taker_count p j w ≤ 12 =
     omega (arith, count_le (units p) (λ n. takes p j w n), a.units.number.high) in
-    ap (λ s. takers p j w * (s / takers p j w)) g ∙ divides_all (takers p j w) some few ∙ sym g)
+    ap (λ s. taker_count p j w * (s / taker_count p j w)) g ∙ divides_all (taker_count p j w) some few ∙ sym g)
   where
     shared_one : (f s : ℕ) → 0 < f → f ≤ 1 → s ≡ 1 → f * (s / f) ≡ s
     shared_one zero s h l e = absurd (omega arith)
@@ -178,7 +178,7 @@ portion_is p a j w l some = on_test (all_below (atoms p) (λ i. are_single (grou
 
 -- in a word with a free unit, somebody takes the call
 pub takers_positive : (p : PlanParts) → IsAccepted p → (j w n : ℕ) → j < atoms p → n < units p
-    → is_busy w n ≡ false → 0 < takers p j w
+    → is_busy w n ≡ false → 0 < taker_count p j w
 takers_positive p a j w n l k f =
     let groups = a.lists.grouped j l in
     let m = taker_exists (units p) (groups_of p j) w n groups.within f (omega (arith, groups.once n k)) in
@@ -191,7 +191,7 @@ not_taken p j w n b = on_test (takes p j w n)
     (λ f. f)
 
 -- where all units are busy, nobody takes a call
-pub takers_none : (p : PlanParts) (j w : ℕ) → ((n : ℕ) → n < units p → is_busy w n ≡ true) → takers p j w ≡ 0
+pub takers_none : (p : PlanParts) (j w : ℕ) → ((n : ℕ) → n < units p → is_busy w n ≡ true) → taker_count p j w ≡ 0
 takers_none p j w h =
     sum_none (units p) (λ n. cond (takes p j w n) 1 0) (λ n l. ap {B = ℕ} (λ c. cond c 1 0) (not_taken p j w n (h n l)))
 
