@@ -1,5 +1,5 @@
 -- The laws of an accepted plan: a solution exists, every mass is positive, any two solutions are proportional.
-use Rattle.std.proofs.Common.{◌≡◌, ℕ, zero, suc, ◌+◌, ◌-◌, ◌*◌, ◌<◌, ◌≤◌, not, List, refl, sym, ap, subst, ◌∙◌, inl, inr, arith, pow_pos}
+use Rattle.std.proofs.Common.{◌≡◌, ℕ, zero, suc, ◌+◌, ◌-◌, ◌*◌, ◌<◌, ◌≤◌, not, List, length, refl, sym, ap, subst, ◌∙◌, inl, inr, arith, pow_pos}
 use Rattle.std.proofs.lemmas.Bool.{cases_lt, cases_eq}
 use Rattle.std.proofs.lemmas.List.FromFn.{length-map-range_with_len}
 use Rattle.std.proofs.Math.Nat.{mul-pos}
@@ -21,7 +21,7 @@ use Rattle.hyper_model.proofs.WordTables.{balance_is, words_descend, turn_rate_l
 pub words_positive : (p : PlanParts) → 0 < words p
 words_positive p = pow_pos (units p)
 
--- a solution of the words solves their table, and back
+-- a list solves the balance of the words where it solves that of their table
 pub solves_word_table : (p : PlanParts) → IsAccepted p → (xs : List ℕ) → SolvesWords p xs
     → SolvesTable (words p) (word_table p) (mass_in xs)
 solves_word_table p a xs s = record {
@@ -29,15 +29,19 @@ solves_word_table p a xs s = record {
   balanced = λ w l. (balance_is p a (mass_in xs) w l).0 (s.balanced w l);
 }
 
+pub table_solves_words : (p : PlanParts) → IsAccepted p → (xs : List ℕ) → length xs ≡ words p
+    → SolvesTable (words p) (word_table p) (mass_in xs) → SolvesWords p xs
+table_solves_words p a xs e s = record {
+  one_each = e;
+  positive = s.positive;
+  balanced = λ w l. (balance_is p a (mass_in xs) w l).1 (s.balanced w l);
+}
+
 pub solves_words : (p : PlanParts) → IsAccepted p → (x : ℕ → ℕ) → SolvesTable (words p) (word_table p) x
     → SolvesWords p (listed (words p) x)
 solves_words p a x s =
-    let t = solves_alike (words p) (word_table p) x (mass_in (listed (words p) x)) (listed_at (words p) x) s in
-    record {
-      one_each = length-map-range_with_len x 0 (words p);
-      positive = t.positive;
-      balanced = λ w l. (balance_is p a (mass_in (listed (words p) x)) w l).1 (t.balanced w l);
-    }
+    table_solves_words p a (listed (words p) x) (length-map-range_with_len x 0 (words p))
+    (solves_alike (words p) (word_table p) x (mass_in (listed (words p) x)) (listed_at (words p) x) s)
 
 scaled_solves : (n k : ℕ) (e : ℕ → ℕ → ℕ) (x : ℕ → ℕ) → 0 < k → SolvesTable n e x → SolvesTable n e (λ i. k * x i)
 scaled_solves n k e x h s = record {

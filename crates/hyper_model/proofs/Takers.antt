@@ -6,13 +6,13 @@ use Rattle.std.proofs.lemmas.Bool.{and_parts, or_parts, not-true}
 use Rattle.std.proofs.lemmas.Bool.Decides.{nat_tests}
 use Rattle.std.proofs.lemmas.List.Elements.{All-head, All-tail}
 use Rattle.std.proofs.lemmas.List.Sums.{sum_by-cons}
-use Rattle.std.proofs.Math.Nat.{mul-pos}
+use Rattle.std.proofs.Math.Nat.{div-le_self, mul-le-mul_left, mul-pos}
 use Rattle.hyper_model.specs.declared.parts.PlanParts.{PlanParts}
 use Rattle.hyper_model.specs.Sums.{sum_below}
 use Rattle.hyper_model.specs.Plans.{units, atoms, calls_of, all_calls, groups_of, are_single, all_below, split, IsAccepted}
 use Rattle.hyper_model.specs.Words.{is_busy, is_free, has_free, is_taker, takes, taker_count, portion}
 use Rattle.hyper_model.specs.Rates.{up}
-use Rattle.hyper_model.proofs.Sums.{on_test, sum-same, sum-scaled, sum-swap, sum_none, place_le_sum, positive_place, count_le, count_of_one, choices_sum}
+use Rattle.hyper_model.proofs.Sums.{on_test, sum-same, sum-scaled, sum-swap, sum-le, sum_none, place_le_sum, positive_place, count_le, count_of_one, choices_sum}
 
 -- how often unit n stands in a group, and that it does
 abbrev count_of : ℕ → List ℕ → ℕ
@@ -156,6 +156,13 @@ split_positive p = one (all_below (atoms p) (λ j. are_single (groups_of p j)))
     one true = omega arith
     one false = omega arith
 
+pub split_le : (p : PlanParts) → split p ≤ 27720
+split_le p = one (all_below (atoms p) (λ j. are_single (groups_of p j)))
+  where
+    one : (b : Bool) → cond b 1 27720 ≤ 27720
+    one true = omega arith
+    one false = omega arith
+
 -- the takers of a call share it without rest
 pub portion_is : (p : PlanParts) → IsAccepted p → (j w : ℕ) → j < atoms p → 0 < taker_count p j w
     → taker_count p j w * portion p j w ≡ split p
@@ -242,3 +249,18 @@ up_some p a w n k f =
           (λ b. b),
       m.2,
     )
+
+-- a unit is sent to some of all calls
+pub up_le : (p : PlanParts) (w n : ℕ) → up p w n ≤ split p * all_calls p
+up_le p w n =
+    omega (
+      arith,
+      sum-le (atoms p) (λ j. cond (takes p j w n) (calls_of p j * portion p j w) 0) (λ j. split p * calls_of p j)
+          (λ j l. of_atom (takes p j w n) j),
+      sum-scaled (atoms p) (split p) (calls_of p),
+    )
+  where
+    of_atom : (b : Bool) (j : ℕ) → cond b (calls_of p j * portion p j w) 0 ≤ split p * calls_of p j
+    of_atom true j =
+        omega (arith, mul-le-mul_left (calls_of p j) (div-le_self (split p) (taker_count p j w)))
+    of_atom false j = omega arith

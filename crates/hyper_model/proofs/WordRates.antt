@@ -1,14 +1,16 @@
 -- The rates of the table of words one by one, and their sums.
 use Rattle.std.proofs.Common.{◌≡◌, ◌≢◌, ℕ, ◌+◌, ◌*◌, ◌<◌, ◌≤◌, Bool, true, false, not, cond, eqb, sym, ap, ◌∙◌, inl, inr, true≢false, arith}
 use Rattle.std.proofs.lemmas.Bool.{cases_eq, ne_eqb}
+use Rattle.std.proofs.Math.Nat.{mul-le-mul}
 use Rattle.hyper_model.specs.declared.parts.PlanParts.{PlanParts}
 use Rattle.hyper_model.specs.Sums.{sum_below}
 use Rattle.hyper_model.specs.Plans.{units, service_of, all_calls, all_service, split, IsAccepted}
 use Rattle.hyper_model.specs.Words.{words, is_busy, full_word, turned}
-use Rattle.hyper_model.specs.Rates.{down, leaving}
+use Rattle.hyper_model.specs.Rates.{up, down, leaving}
 use Rattle.hyper_model.specs.Tables.{RateTable, Descends, between_states, turn_rate, word_table}
 use Rattle.hyper_model.proofs.Sums.{same_test, sum-same, sum-scaled, sum-at, sum-le, sum_none}
-use Rattle.hyper_model.proofs.Bits.{busy_turned, busy_turned_other}
+use Rattle.hyper_model.proofs.Bits.{busy_turned, busy_turned_other, free_exists}
+use Rattle.hyper_model.proofs.Takers.{split_le, up_all}
 use Rattle.hyper_model.proofs.WordTables.{row_is, leaving_is, leaving_full, leaving_other}
 
 no_fixed_point : (b : Bool) → b ≢ not b
@@ -64,6 +66,16 @@ leaving_le p w =
     at_most true k = omega arith
     at_most false k = omega arith
 
+-- which is at most 27,720 times two millions
+pub leaving_small : (p : PlanParts) → IsAccepted p → (w : ℕ) → leaving p w ≤ 55440000000
+leaving_small p a w =
+    omega (
+      arith,
+      leaving_le p w,
+      mul-le-mul (split_le p) (let both : all_calls p + all_service p ≤ 2000000 =
+          omega (arith, a.atoms.calls.high, a.units.service) in both),
+    )
+
 -- and it is the sum of the rates to the other words
 pub leaving_row : (p : PlanParts) → IsAccepted p → (w : ℕ) → w < words p
     → sum_below (words p) (word_table p w) ≡ leaving p w
@@ -75,3 +87,8 @@ descends_between n e d m pos l =
     let to = d m pos l in
     let apart : m ≢ to.0 = let below = to.1 in omega (arith, below) in
     (to.0, to.1, omega (arith, to.2, ap (λ c. cond c 0 (e m to.0)) (ne_eqb m to.0 apart)))
+
+-- in a word that is not full, all calls go to somebody
+pub up_not_full : (p : PlanParts) → IsAccepted p → (w : ℕ) → w < words p → w ≢ full_word p
+    → sum_below (units p) (up p w) ≡ split p * all_calls p
+up_not_full p a w l ne = let free = free_exists (units p) w l ne in up_all p a w free.0 free.1 free.2
