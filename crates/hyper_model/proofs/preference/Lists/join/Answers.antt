@@ -1,4 +1,4 @@
-use Rattle.std.proofs.Common.{rules, sym}
+use Rattle.std.proofs.Common.{rules}
 use Rattle.hyper_model.proofs.ListRows.{join_written, rows_seen, units_seen}
 use Rattle.hyper_model.proofs.preference.Lists.join.Goals as goal
 

@@ -1,6 +1,5 @@
-use Rattle.std.proofs.Common.{rules, ap, ◌∙◌, sym}
+use Rattle.std.proofs.Common.{rules}
 use Rattle.hyper_model.proofs.ListRows.{later_part, row_seen, rows_seen}
-use Rattle.hyper_model.specs.Groups.{AtomList}
 use Rattle.hyper_model.proofs.preference.Lists.later_begins.Goals as goal
 
 pub returns-clause-begins : goal.returns-clause-begins

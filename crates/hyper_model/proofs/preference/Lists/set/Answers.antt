@@ -1,4 +1,4 @@
-use Rattle.std.proofs.Common.{rules, sym}
+use Rattle.std.proofs.Common.{rules}
 use Rattle.hyper_model.proofs.ListRows.{member_written, rows_seen, units_seen}
 use Rattle.hyper_model.proofs.preference.Lists.set.Goals as goal
 
