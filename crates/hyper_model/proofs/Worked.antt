@@ -3,7 +3,7 @@ use Rattle.std.proofs.Common.{inl, inr, ℕ, zero, suc, ◌-◌, ◌<◌, Bool, 
 use Rattle.std.proofs.lemmas.Bool.{cases_eq}
 use Rattle.hyper_model.specs.declared.kinds.Measure.{Measure}
 use Rattle.hyper_model.specs.declared.parts.PlanParts.{PlanParts}
-use Rattle.hyper_model.specs.declared.preference.ListRow.{ListRow}
+use Rattle.hyper_model.specs.Groups.{AtomList}
 use Rattle.hyper_model.specs.Measures.{ContainsRatio, measure_of, scale_of}
 use Rattle.hyper_model.specs.Solutions.{mass_in}
 
@@ -24,7 +24,7 @@ abbrev pub Holds : PlanParts → List ℕ → ℕ → Measure → ℕ → ℕ �
 Holds p xs z m lo hi = ContainsRatio lo hi (scale_of m) (measure_of p (mass_in xs) z m)
 
 -- a list of an atom, with the rest of its twelve places as they were at first
-abbrev pub row_of_units : List ℕ → List Bool → ListRow
+abbrev pub row_of_units : List ℕ → List Bool → AtomList
 row_of_units units begins = record {
   members = units ++ replicate (12 - length units) 0;
   begins = begins ++ replicate (12 - length begins) true;

@@ -5,14 +5,14 @@ use Rattle.hyper_model.specs.declared.kinds.Line.TheVariants as line
 use Rattle.hyper_model.specs.declared.kinds.Rule.TheVariants as rule
 use Rattle.hyper_model.specs.declared.kinds.Measure.{Measure}
 use Rattle.hyper_model.specs.declared.kinds.Measure.TheVariants as measure
-use Rattle.hyper_model.specs.declared.preference.ListRow.{ListRow}
+use Rattle.hyper_model.specs.Groups.{AtomList}
 use Rattle.hyper_model.specs.declared.parts.PlanParts.{PlanParts}
 use Rattle.hyper_model.specs.Measures.{is_without}
 use Rattle.hyper_model.specs.Solutions.{IsSolution}
 use Rattle.hyper_model.proofs.Worked.{each_below, Holds, row_of_units}
 
 -- unit A is in its atom P, unit B in its atom Q; within an atom 60 seconds, between them 300
-abbrev two_districts : ListRow → ListRow → PlanParts
+abbrev two_districts : AtomList → AtomList → PlanParts
 two_districts list_of_p list_of_q = record {
   line = line.Zero;
   rule = rule.Given;
@@ -28,7 +28,7 @@ two_districts list_of_p list_of_q = record {
 }
 
 -- either of the two units, with equal probability
-abbrev either_unit : ListRow
+abbrev either_unit : AtomList
 either_unit = row_of_units (0 ∷ 1 ∷ []) (true ∷ false ∷ [])
 
 -- a call goes to the unit of its district where that is free, else to the other
