@@ -9,3 +9,4 @@ pub mod Rates
 pub mod Solutions
 pub mod Measures
 pub mod Enclosures
+pub mod Acceptance

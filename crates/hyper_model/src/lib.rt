@@ -3,6 +3,7 @@
 #![tactic(auto)]
 
 mod acceptance;
+mod acceptance_tables;
 mod enclosure_list;
 mod grid;
 mod kinds;
