@@ -4,9 +4,9 @@ use Rattle.hyper_model.specs.declared.kinds.Found.{Found}
 use Rattle.hyper_model.specs.declared.kinds.Found.TheVariants as found
 use Rattle.hyper_model.specs.declared.kinds.Enclosed.{Enclosed}
 use Rattle.hyper_model.specs.Measures.{scale_of}
-use Rattle.report_text.specs.declared.width.Widths.{Widths}
-use Rattle.report_text.specs.declared.width.ReportEnd.{ReportEnd}
-use Rattle.report_text.specs.declared.width.ReportEnd.TheVariants as end
+use Rattle.report_text.specs.declared.ending.Widths.{Widths}
+use Rattle.report_text.specs.declared.ending.ReportEnd.{ReportEnd}
+use Rattle.report_text.specs.declared.ending.ReportEnd.TheVariants as end
 use Rattle.report_text.specs.Reports.{printed}
 
 -- the width asked of measures with this scale, if any
