@@ -58,14 +58,14 @@ lines_some : (first : List ℕ) (field : ℕ → List ℕ) (groups : List (List 
     → flat_map (line first field) groups ≡ first ++ behind_first first field groups
 lines_some first field groups m h = rw h.1.1 (lines_behind first field (m ∷ h.0) h.1.0)
 
--- the first unit's field stands behind the first fields, and then what is to come
-pub lines_start : (first : List ℕ) (field : ℕ → List ℕ) (members : List ℕ) (begins : List Bool) (n : ℕ)
-    → 0 < length members → n ≡ get_or members 0 n
-    → first ++ (field n ++ rest first field (drop 1 members) begins) ≡ flat_map (line first field) (groups_from members begins)
-lines_start first field [] begins n h e = absurd (let f : ⊥ = omega arith in f)
-lines_start first field (m ∷ ms) begins n h e =
-    rw e (sym (lines_some first field (groups_from (m ∷ ms) begins) m (groups_head m ms begins)
-        ∙ ap (λ t. first ++ t) (behind_is first field m ms begins)))
+-- behind the first unit's field all lines are still to come, but for that field and what is before it
+pub lines_start : (first : List ℕ) (field : ℕ → List ℕ) (members : List ℕ) (begins : List Bool) → 0 < length members
+    → flat_map (line first field) (groups_from members begins)
+        ≡ first ++ (field (get_or members 0 0) ++ rest first field (drop 1 members) begins)
+lines_start first field [] begins h = absurd (let f : ⊥ = omega arith in f)
+lines_start first field (m ∷ ms) begins h =
+    lines_some first field (groups_from (m ∷ ms) begins) m (groups_head m ms begins)
+    ∙ ap (λ t. first ++ t) (behind_is first field m ms begins)
 
 rest_more : (first : List ℕ) (field : ℕ → List ℕ) (ns more : List ℕ) (bs begins : List Bool) (n : ℕ) (begin : Bool)
     → ns ≡ n ∷ more → bs ≡ begin ∷ begins
@@ -73,15 +73,40 @@ rest_more : (first : List ℕ) (field : ℕ → List ℕ) (ns more : List ℕ) (
 rest_more first field ns more bs begins n begin e f = rw (e, f) refl
 
 -- a step to the next unit
-pub rest_next : (first : List ℕ) (field : ℕ → List ℕ) (members : List ℕ) (begins : List Bool) (place n : ℕ) (begin : Bool)
+pub rest_next : (first : List ℕ) (field : ℕ → List ℕ) (members : List ℕ) (begins : List Bool) (place : ℕ) (d : Bool)
     → 1 ≤ place → place < length members → length begins + 1 ≡ length members
-    → n ≡ get_or members place n → begin ≡ get_or begins (place - 1) begin
     → rest first field (drop place members) (drop (place - 1) begins)
-        ≡ break first begin ++ (field n ++ rest first field (drop (place + 1) members) (drop (place + 1 - 1) begins))
-rest_next first field members begins place n begin least small each e f =
+        ≡ break first (get_or begins (place - 1) d)
+            ++ (field (get_or members place 0) ++ rest first field (drop (place + 1) members) (drop (place + 1 - 1) begins))
+rest_next first field members begins place d least small each =
     let early : place - 1 < length begins = omega arith in
     let step : place - 1 + 1 ≡ place + 1 - 1 = omega arith in
-    rest_more first field (drop place members) (drop (place + 1) members) (drop (place - 1) begins) (drop (place + 1 - 1) begins) n begin
-        (drop_more members place n small ∙ ap (λ m. m ∷ drop (place + 1) members) (sym e))
-        (drop_more begins (place - 1) begin early ∙ ap (λ b. b ∷ drop (place - 1 + 1) begins) (sym f)
-          ∙ ap (λ k. begin ∷ drop k begins) step)
+    rest_more first field (drop place members) (drop (place + 1) members) (drop (place - 1) begins) (drop (place + 1 - 1) begins)
+        (get_or members place 0) (get_or begins (place - 1) d)
+        (drop_more members place 0 small)
+        (drop_more begins (place - 1) d early ∙ ap (λ k. get_or begins (place - 1) d ∷ drop k begins) step)
+
+-- the text when the first unit is written
+pub start_text : (old one text first : List ℕ) (field : ℕ → List ℕ) (members : List ℕ) (begins : List Bool)
+    → 0 < length members → one ≡ old ++ first → text ≡ one ++ field (get_or members 0 0)
+    → text ++ rest first field (drop 1 members) begins ≡ old ++ flat_map (line first field) (groups_from members begins)
+start_text old one text first field members begins some e f =
+    ap (λ t. t ++ rest first field (drop 1 members) begins) (f ∙ ap (λ t. t ++ field (get_or members 0 0)) e)
+    ∙ search (rules, append_assoc)
+    ∙ ap (λ t. old ++ t) (sym (lines_start first field members begins some))
+
+-- the text when one more unit is written
+pub next_text : (old one text whole first : List ℕ) (field : ℕ → List ℕ) (members : List ℕ) (begins : List Bool) (place : ℕ) (d : Bool)
+    → 1 ≤ place → place < length members → length begins + 1 ≡ length members
+    → old ++ rest first field (drop place members) (drop (place - 1) begins) ≡ whole
+    → one ≡ old ++ break first (get_or begins (place - 1) d) → text ≡ one ++ field (get_or members place 0)
+    → text ++ rest first field (drop (place + 1) members) (drop (place + 1 - 1) begins) ≡ whole
+next_text old one text whole first field members begins place d least small each so_far e f =
+    let later = rest first field (drop (place + 1) members) (drop (place + 1 - 1) begins) in
+    let b = break first (get_or begins (place - 1) d) in
+    let n = field (get_or members place 0) in
+    let grouped : old ++ b ++ n ++ later ≡ old ++ (b ++ (n ++ later)) = search (rules, append_assoc) in
+    ap (λ t. t ++ later) (f ∙ ap (λ t. t ++ n) e)
+    ∙ grouped
+    ∙ ap (λ t. old ++ t) (sym (rest_next first field members begins place d least small each))
+    ∙ so_far

@@ -13,11 +13,16 @@ line_name line.Infinite = codes "infinite"
 abbrev pub count_line : List ℕ → ℕ → List ℕ
 count_line word number = word ++ codes "," ++ decimal number ++ codes "\n"
 
+abbrev pub line_line : Line → List ℕ
+line_line l = codes "line," ++ line_name l ++ codes "\n"
+
+-- how many units and atoms there are
+abbrev pub size_lines : PlanParts → List ℕ
+size_lines p = count_line (codes "units") (units p) ++ count_line (codes "atoms") (atoms p)
+
+-- the rates of all calls and of all service
+abbrev pub rate_lines : PlanParts → List ℕ
+rate_lines p = count_line (codes "calls") (all_calls p) ++ count_line (codes "service") (all_service p)
+
 abbrev pub head_bytes : PlanParts → List ℕ
-head_bytes p =
-    count_line (codes "report") 1
-    ++ codes "line," ++ line_name p.line ++ codes "\n"
-    ++ count_line (codes "units") (units p)
-    ++ count_line (codes "atoms") (atoms p)
-    ++ count_line (codes "calls") (all_calls p)
-    ++ count_line (codes "service") (all_service p)
+head_bytes p = count_line (codes "report") 1 ++ line_line p.line ++ size_lines p ++ rate_lines p

@@ -1,5 +1,5 @@
-ghost use Rattle.std.specs.Prelude.{◌≡◌, ◌++◌, IfOk, codes};
-ghost use Rattle.report_text.specs.Heads.{head_bytes, line_name, count_line};
+ghost use Rattle.std.specs.Prelude.{◌≡◌, ◌++◌, IfOk};
+ghost use Rattle.report_text.specs.Heads.{head_bytes, line_line, size_lines, rate_lines, count_line};
 
 use crate::number::push_decimal;
 
@@ -14,19 +14,31 @@ pub fn push_head(text: &mut Vec<u8>, plan: &Plan) -> Result<(), AllocError>
 {
     push_count(text, b"report", 1)?;
     push_line(text, plan.line())?;
-    push_count(text, b"units", plan.units() as u64)?;
-    push_count(text, b"atoms", plan.atoms() as u64)?;
-    push_count(text, b"calls", u64::from(plan.calls()))?;
-    push_count(text, b"service", u64::from(plan.service()))
+    push_sizes(text, plan)?;
+    push_rates(text, plan)
 }
 
 fn push_line(text: &mut Vec<u8>, line: Line) -> Result<(), AllocError>
-    ensures { IfOk result (λ _. text.new.items ≡ text.old.items ++ (codes "line," ++ line_name line ++ codes "\n")) }
+    ensures { IfOk result (λ _. text.new.items ≡ text.old.items ++ line_line line) }
 {
     match line {
         Line::Zero => text.extend_from_slice(b"line,zero\n"),
         Line::Infinite => text.extend_from_slice(b"line,infinite\n"),
     }
+}
+
+fn push_sizes(text: &mut Vec<u8>, plan: &Plan) -> Result<(), AllocError>
+    ensures { IfOk result (λ _. text.new.items ≡ text.old.items ++ size_lines plan.now) }
+{
+    push_count(text, b"units", plan.units() as u64)?;
+    push_count(text, b"atoms", plan.atoms() as u64)
+}
+
+fn push_rates(text: &mut Vec<u8>, plan: &Plan) -> Result<(), AllocError>
+    ensures { IfOk result (λ _. text.new.items ≡ text.old.items ++ rate_lines plan.now) }
+{
+    push_count(text, b"calls", u64::from(plan.calls()))?;
+    push_count(text, b"service", u64::from(plan.service()))
 }
 
 fn push_count(text: &mut Vec<u8>, word: &[u8], number: u64) -> Result<(), AllocError>

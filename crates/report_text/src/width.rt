@@ -1,4 +1,4 @@
-ghost use Rattle.std.specs.Prelude.{◌≡◌, ◌≤◌, ◌&&◌, ◌×◌, ◌||◌, not, true, false, None, Some, IfErr, OnOk};
+ghost use Rattle.std.specs.Prelude.{◌≡◌, ◌≤◌, ◌&&◌, ◌||◌, not, true, false, None, Some, IfErr, OnOk};
 ghost use Rattle.hyper_model.specs.declared.kinds.Found.TheVariants as found;
 ghost use Rattle.hyper_model.specs.Enclosures.{IsOrderedFound, IsOrderedEnclosed};
 ghost use Rattle.hyper_model.specs.Measures.{scale_of};
