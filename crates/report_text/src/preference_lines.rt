@@ -27,9 +27,10 @@ fn push_list(text: &mut Vec<u8>, plan: &Plan, j: u16) -> Result<(), AllocError>
     ensures { IfOk result (λ _. text.new.items ≡ text.old.items ++ list_lines plan.now j) }
 {
     let lists = plan.lists();
-    let members = lists.list(usize::from(j));
-    let begins = lists.later_begins(usize::from(j));
-    if is_single(lists, j) {
+    let atom = usize::from(j);
+    let members = lists.list(atom);
+    let begins = lists.later_begins(atom);
+    if is_single(lists, atom) {
         push_prefer(text, plan, j, members)
     } else {
         push_groups(text, plan, j, members, begins)
@@ -37,12 +38,12 @@ fn push_list(text: &mut Vec<u8>, plan: &Plan, j: u16) -> Result<(), AllocError>
 }
 
 /// Whether each group of the atom's list has one unit.
-fn is_single(lists: &Lists, j: u16) -> bool
-    requires { j < length lists.now.rows }
-    ensures { result ≡ are_single (groups_in lists.now j) }
+fn is_single(lists: &Lists, atom: usize) -> bool
+    requires { atom < length lists.now.rows }
+    ensures { result ≡ are_single (groups_in lists.now atom) }
 {
-    let _members = lists.list(usize::from(j));
-    all_begin(lists.later_begins(usize::from(j)))
+    let _members = lists.list(atom);
+    all_begin(lists.later_begins(atom))
 }
 
 fn all_begin(begins: &[bool]) -> bool

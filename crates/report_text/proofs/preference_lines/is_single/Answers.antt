@@ -6,8 +6,8 @@ use Rattle.report_text.proofs.preference_lines.is_single.Goals as goal
 
 pub returns : goal.returns
 returns c =
-    let row = row_of c.args.lists.now c.args.j in
-    let members = list_of c.args.lists.now c.args.j in
+    let row = row_of c.args.lists.now c.args.atom in
+    let members = list_of c.args.lists.now c.args.atom in
     let each : length (drop 1 row.begins) ≡ length members - 1 =
         omega (arith, length-drop 1 row.begins, c.list-members.ensures.one_each, c.later_begins.ensures.one_each) in
     c.all_begin.ensures
