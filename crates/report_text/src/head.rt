@@ -2,7 +2,6 @@ ghost use Rattle.std.specs.Prelude.{◌≡◌, ◌++◌, IfOk};
 ghost use Rattle.report_text.specs.Heads.{head_bytes, line_line, size_lines, rate_lines, count_line};
 
 use crate::number::push_decimal;
-
 use hyper_model::{Line, Plan};
 use std::alloc::AllocError;
 

@@ -30,7 +30,12 @@ pub fn push_label(text: &mut Vec<u8>, plan: &Plan, measure: Measure) -> Result<(
         Measure::Dispatch(n, j) => push_dispatch_label(text, plan, n, j),
         Measure::Interdistrict => text.extend_from_slice(b"interdistrict"),
         Measure::InterdistrictUnit(n) => push_unit_label(text, b"interdistrict-unit,", plan, n),
-        Measure::InterdistrictDistrict(n) => push_unit_label(text, b"interdistrict-district,", plan, n),
+        Measure::InterdistrictDistrict(n) => push_unit_label(
+            text,
+            b"interdistrict-district,",
+            plan,
+            n,
+        ),
         Measure::Travel => text.extend_from_slice(b"travel"),
         Measure::TravelAtom(j) => push_atom_label(text, b"travel-atom,", plan, j),
         Measure::TravelUnit(n) => push_unit_label(text, b"travel-unit,", plan, n),
@@ -41,17 +46,20 @@ pub fn push_label(text: &mut Vec<u8>, plan: &Plan, measure: Measure) -> Result<(
 fn push_dispatch_label(text: &mut Vec<u8>, plan: &Plan, n: u8, j: u16) -> Result<(), AllocError>
     requires unit { n < units plan.now }
     requires atom { j < atoms plan.now }
-    ensures {
-        IfOk result (λ _. text.new.items
-            ≡ text.old.items ++ (codes "dispatch," ++ unit_name plan.now n ++ codes "," ++ atom_name plan.now j))
-    }
+    ensures { IfOk result (λ _. text.new.items
+        ≡ text.old.items ++ (codes "dispatch," ++ unit_name plan.now n ++ codes "," ++ atom_name plan.now j)) }
 {
     push_unit_label(text, b"dispatch,", plan, n)?;
     push_atom_label(text, b",", plan, j)
 }
 
 /// Puts a word, and behind it the name of unit n.
-pub(crate) fn push_unit_label(text: &mut Vec<u8>, word: &[u8], plan: &Plan, n: u8) -> Result<(), AllocError>
+pub(crate) fn push_unit_label(
+    text: &mut Vec<u8>,
+    word: &[u8],
+    plan: &Plan,
+    n: u8,
+) -> Result<(), AllocError>
     requires { n < units plan.now }
     ensures { IfOk result (λ _. text.new.items ≡ text.old.items ++ (word.now ++ unit_name plan.now n)) }
 {
@@ -60,7 +68,12 @@ pub(crate) fn push_unit_label(text: &mut Vec<u8>, word: &[u8], plan: &Plan, n: u
 }
 
 /// Puts a word, and behind it the name of atom j.
-pub(crate) fn push_atom_label(text: &mut Vec<u8>, word: &[u8], plan: &Plan, j: u16) -> Result<(), AllocError>
+pub(crate) fn push_atom_label(
+    text: &mut Vec<u8>,
+    word: &[u8],
+    plan: &Plan,
+    j: u16,
+) -> Result<(), AllocError>
     requires { j < atoms plan.now }
     ensures { IfOk result (λ _. text.new.items ≡ text.old.items ++ (word.now ++ atom_name plan.now j)) }
 {

@@ -4,7 +4,6 @@ ghost use Rattle.report_text.specs.Numbers.{IsScale, ends_bytes};
 ghost use Rattle.report_text.specs.Lines.{found_bytes, measure_line};
 
 use crate::{push_label, push_number};
-
 use hyper_model::{Enclosed, Found, Plan, scale};
 use std::alloc::AllocError;
 
