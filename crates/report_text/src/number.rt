@@ -14,8 +14,10 @@ pub fn number_text(alloc: Global, value: u64, scale: u32) -> Result<Vec<u8>, All
     Ok(text)
 }
 
-/// Puts a number of thousandths (`scale` 1000) or millionths (1,000,000) behind the text, as a decimal
-/// fraction of three or six places.
+/// Puts a number of thousandths (`scale` 1000) or of millionths (1,000,000) behind the text, as a
+/// decimal fraction of three or six places.
+///
+/// Where memory ends, a part of it stands there.
 pub fn push_number(text: &mut Vec<u8>, value: u64, scale: u32) -> Result<(), AllocError>
     requires { IsScale scale }
     ensures { IfOk result (λ _. text.new.items ≡ text.old.items ++ number_bytes value scale) }

@@ -56,7 +56,8 @@ fn all_begin(begins: &[bool]) -> bool
 fn push_prefer(text: &mut Vec<u8>, plan: &Plan, j: u16, members: &[u8]) -> Result<(), AllocError>
     requires atom { j < atoms plan.now }
     requires units { All (λ n. n < units plan.now) members.now }
-    ensures { IfOk result (λ _. text.new.items ≡ text.old.items ++ list_line plan.now (codes "prefer") j members.now) }
+    ensures { IfOk result (λ _.
+        text.new.items ≡ text.old.items ++ list_line plan.now (codes "prefer") j members.now) }
 {
     push_atom_label(text, b"prefer,", plan, j)?;
     for n in members {
@@ -66,7 +67,8 @@ fn push_prefer(text: &mut Vec<u8>, plan: &Plan, j: u16, members: &[u8]) -> Resul
     Ok(())
 }
 
-/// Puts a line for each group. Of each unit but the first, `begins` tells whether a group begins with it.
+/// Puts a line for each group. Of each unit but the first, `begins` tells whether a group begins with
+/// it.
 fn push_groups(
     text: &mut Vec<u8>,
     plan: &Plan,
@@ -95,7 +97,8 @@ fn push_groups(
 fn push_break(text: &mut Vec<u8>, plan: &Plan, j: u16, begins: bool) -> Result<(), AllocError>
     requires { j < atoms plan.now }
     ensures { IfOk result (λ _. text.new.items
-        ≡ text.old.items ++ (if begins then codes "\n" ++ (codes "group," ++ atom_name plan.now j) else [])) }
+        ≡ text.old.items
+        ++ (if begins then codes "\n" ++ (codes "group," ++ atom_name plan.now j) else [])) }
 {
     if !begins {
         return Ok(());

@@ -13,11 +13,11 @@ use crate::{ReportEnd, Widths, push_head, push_measure};
 use hyper_model::{Enclosed, Enclosures, Plan};
 use std::alloc::{AllocError, Global};
 
-/// The report of a plan's measures, in the order of the list, or its summary: the head, and the measures of the
-/// whole region.
+/// The report of a plan's measures, in the order of the list, or its summary, which has the head and the
+/// measures of the whole region.
 ///
-/// There is none where the ends of a printed measure lie further apart than was asked, and the first such measure
-/// is told.
+/// There is none where the ends of a printed measure lie further apart than was asked: the first such
+/// measure is told.
 pub fn report(
     alloc: Global,
     plan: &Plan,
@@ -26,7 +26,8 @@ pub fn report(
     summary: bool,
 ) -> Result<Vec<u8>, ReportEnd>
     requires { All (λ e. IsInRange plan.now e.measure) found.now.items }
-    ensures text { IfOk result (λ text. text.items ≡ report_bytes plan.now found.now.items summary) }
+    ensures text { IfOk result (λ text.
+        text.items ≡ report_bytes plan.now found.now.items summary) }
     ensures narrow { OnOk result (first_wide widths summary found.now.items ≡ None) }
     ensures end { IfErr result (λ end. EndsAt (first_wide widths summary found.now.items) end) }
 {
@@ -56,7 +57,8 @@ fn report_text(
 
 /// Puts the lines of the preference lists, which a summary does not have.
 fn push_preferences(text: &mut Vec<u8>, plan: &Plan, summary: bool) -> Result<(), AllocError>
-    ensures { IfOk result (λ _. text.new.items ≡ text.old.items ++ (if summary then [] else all_list_lines plan.now)) }
+    ensures { IfOk result (λ _.
+        text.new.items ≡ text.old.items ++ (if summary then [] else all_list_lines plan.now)) }
 {
     if summary {
         Ok(())
@@ -73,7 +75,8 @@ fn push_measures(
     summary: bool,
 ) -> Result<(), AllocError>
     requires { All (λ e. IsInRange plan.now e.measure) found.now.items }
-    ensures { IfOk result (λ _. text.new.items ≡ text.old.items ++ flat_map (measure_line plan.now) (printed summary found.now.items)) }
+    ensures { IfOk result (λ _. text.new.items
+        ≡ text.old.items ++ flat_map (measure_line plan.now) (printed summary found.now.items)) }
 {
     for place in 0..found.len() {
         push_printed(text, plan, found.get(place), summary)?;
@@ -89,7 +92,8 @@ fn push_printed(
 ) -> Result<(), AllocError>
     requires { IsInRange plan.now item.measure }
     ensures { IfOk result (λ _. text.new.items
-        ≡ text.old.items ++ (if spec.is_printed summary item then measure_line plan.now item else [])) }
+        ≡ text.old.items
+        ++ (if spec.is_printed summary item then measure_line plan.now item else [])) }
 {
     if is_printed(item.measure, summary) {
         push_measure(text, plan, item)

@@ -39,7 +39,8 @@ fn check_width(item: Enclosed, widths: Widths, summary: bool) -> Result<(), Repo
     }
 }
 
-/// Whether the high end of the measure less its low end is more than the width asked of measures of its kind.
+/// Whether the high end of the measure less its low end is more than the width asked of measures of its
+/// kind.
 pub fn is_too_wide(item: Enclosed, widths: Widths) -> bool
     requires { IsOrderedEnclosed item }
     ensures { result ≡ is_wide widths item }
