@@ -1,5 +1,5 @@
 -- Cells of a table: a place of its own for each row and column.
-use Rattle.std.proofs.Common.{◌≡◌, ◌≢◌, ℕ, suc, ◌+◌, ◌*◌, ◌<◌, ◌≤◌, ◌⊎◌, inl, inr, ap, refl, arith, List, length, get_or, get_or-set_same, get_or-set_other, set}
+use Rattle.std.proofs.Common.{◌≡◌, ◌≢◌, ℕ, ◌+◌, ◌*◌, ◌<◌, ◌≤◌, ◌⊎◌, inl, inr, ap, refl, arith, List, length, get_or, get_or-set_same, get_or-set_other, set}
 use Rattle.std.proofs.Math.Nat.{mul-le-mul_right}
 use Rattle.hyper_model.specs.Grid.{SetsCell}
 
@@ -20,16 +20,16 @@ pub place_apart : (cols i r j c : ℕ) → j < cols → c < cols → (i ≢ r) �
 place_apart cols i r j c h g (inl d) e =
     let t : (i < r) ⊎ (r < i) = grind arith in
     elim t [
-      inl l ↦ omega (arith, place_before cols i r j c h l)
-    | inr l ↦ omega (arith, place_before cols r i c j g l)
+      | inl l ↦ omega (arith, place_before cols i r j c h l)
+      | inr l ↦ omega (arith, place_before cols r i c j g l)
     ]
 place_apart cols i r j c h g (inr d) e =
     let t : (i ≡ r) ⊎ ((i < r) ⊎ (r < i)) = grind arith in
     elim t [
-      inl l ↦ omega (arith, ap (λ a. a * cols) l)
-    | inr t ↦ elim t [
-        inl l ↦ omega (arith, place_before cols i r j c h l)
-      | inr l ↦ omega (arith, place_before cols r i c j g l)
+      | inl l ↦ omega (arith, ap (λ a. a * cols) l)
+      | inr t ↦ elim t [
+        | inl l ↦ omega (arith, place_before cols i r j c h l)
+        | inr l ↦ omega (arith, place_before cols r i c j g l)
       ]
     ]
 
@@ -38,12 +38,10 @@ pub other_cell : (xs : List ℕ) (v cols i r j c : ℕ) → j < cols → c < col
     → get_or (set xs (r * cols + c) v) (i * cols + j) 0 ≡ get_or xs (i * cols + j) 0
 other_cell xs v cols i r j c h g d = get_or-set_other xs (r * cols + c) (i * cols + j) v 0 (place_apart cols i r j c h g d)
 
-
-
 -- what a write of one cell leaves of a table
 pub sets_cell : (rows cols r c v : ℕ) (xs : List ℕ) → r < rows → c < cols → length xs ≡ rows * cols
     → SetsCell (record { rows = rows; cols = cols; cells = xs })
-        (record { rows = rows; cols = cols; cells = set xs (r * cols + c) v }) r c v
+    (record { rows = rows; cols = cols; cells = set xs (r * cols + c) v }) r c v
 sets_cell rows cols r c v xs h g e =
     let inside : r * cols + c < length xs = omega (arith, place_within rows cols r c h g) in
     record {

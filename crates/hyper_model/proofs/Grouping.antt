@@ -1,12 +1,13 @@
 -- Groups that are made of a list of units: what holds of the list holds of the groups together.
-use Rattle.std.proofs.Common.{◌≡◌, ℕ, zero, suc, ◌+◌, ◌-◌, ◌<◌, ◌≤◌, ◌∙◌, ap, refl, sym, arith, List, [], ◌∷◌, Bool, true, false, length, take, eqb, cond, ◌&&◌}
-use Rattle.std.specs.Prelude.{All, sum_by, count_by}
+use Rattle.std.proofs.Common.{◌≡◌, ℕ, ◌+◌, ◌-◌, ◌<◌, ◌∙◌, ap, refl, sym, arith, List, [], ◌∷◌, Bool, true, false, length, take, cond}
+use Rattle.std.specs.Prelude.{All, sum_by, count_by, ◌==◌}
 use Rattle.std.specs.List.{list_all}
 use Rattle.std.proofs.lemmas.Bool.Decides.{nat_tests}
 use Rattle.std.proofs.lemmas.List.Elements.{All-nil, All-cons, All-head, All-tail}
 use Rattle.std.proofs.lemmas.List.Sums.{sum_by-cons}
 use Rattle.hyper_model.specs.Groups.{put_before, groups_from, IsGrouped}
 use Rattle.hyper_model.specs.Plans.{are_single}
+use Rattle.hyper_model.specs.Acceptance.{IsFullList}
 
 -- the first group begins with the unit that is put before
 pub put_head : (unit : ℕ) (alone : Bool) (groups : List (List ℕ))
@@ -114,7 +115,7 @@ from_within P (unit ∷ units) (begin ∷ begins) h =
 -- so many units as the list has of a kind, all groups have together
 pub put_count : (p : ℕ → Bool) (unit : ℕ) (alone : Bool) (groups : List (List ℕ))
     → sum_by (λ group. count_by p group) (put_before unit alone groups)
-        ≡ cond (p unit) 1 0 + sum_by (λ group. count_by p group) groups
+    ≡ cond (p unit) 1 0 + sum_by (λ group. count_by p group) groups
 put_count p unit alone [] = omega arith
 put_count p unit true (group ∷ groups) =
     omega (arith, sum_by-cons (λ (g : List ℕ). count_by p g) (unit ∷ []) (group ∷ groups), sum_by-cons (λ (x : ℕ). cond (p x) 1 0) unit [])
@@ -128,3 +129,17 @@ count_from p (unit ∷ units) [] =
     omega (arith, put_count p unit true (groups_from units []), count_from p units [], sum_by-cons (λ (x : ℕ). cond (p x) 1 0) unit units)
 count_from p (unit ∷ units) (begin ∷ begins) =
     omega (arith, put_count p unit begin (groups_from units begins), count_from p units begins, sum_by-cons (λ (x : ℕ). cond (p x) 1 0) unit units)
+
+-- groups hold each of the first n units once exactly where their list does
+pub grouped_from : (n : ℕ) (units : List ℕ) (begins : List Bool) → IsFullList n units → IsGrouped n (groups_from units begins)
+grouped_from n units begins h = record {
+  filled = filled_from units begins;
+  within = within_from (λ unit. unit < n) units begins h.within;
+  once = λ unit l. count_from (λ m. m == unit) units begins ∙ h.once unit l;
+}
+
+pub from_grouped : (n : ℕ) (units : List ℕ) (begins : List Bool) → IsGrouped n (groups_from units begins) → IsFullList n units
+from_grouped n units begins h = record {
+  within = from_within (λ unit. unit < n) units begins h.within;
+  once = λ unit l. sym (count_from (λ m. m == unit) units begins) ∙ h.once unit l;
+}

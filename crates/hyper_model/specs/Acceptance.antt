@@ -1,5 +1,5 @@
 -- Words of the checks that accept a plan's parts.
-use Rattle.std.specs.Prelude.{◌≡◌, ℕ, ◌<◌, ◌≤◌, List}
+use Rattle.std.specs.Prelude.{◌≡◌, ◌==◌, ℕ, ◌<◌, ◌≤◌, List, length, All, count_by}
 use Rattle.hyper_model.specs.declared.parts.PlanParts.{PlanParts}
 use Rattle.hyper_model.specs.Grid.{Grid, cell}
 use Rattle.hyper_model.specs.Groups.{GroupLists, groups_in, IsGrouped}
@@ -27,6 +27,24 @@ HaveRates p = (n : ℕ) → n < units p → IsBetween 1 1000000 (unit_at p n).ra
 -- each atom is within its limits
 abbrev pub ArePlaced : PlanParts → Type 0
 ArePlaced p = (j : ℕ) → j < atoms p → IsPlaced (units p) (atom_at p j)
+
+-- at how many places of a list the unit stands
+abbrev pub places_in : List ℕ → ℕ → ℕ
+places_in list unit = count_by (λ m. m == unit) list
+
+-- each of the first n units stands once in the list
+abbrev pub EachStandsOnce : ℕ → List ℕ → Type 0
+EachStandsOnce n list = (unit : ℕ) → unit < n → places_in list unit ≡ 1
+
+-- a list of the first n units, each once
+pub record IsFullList (n : ℕ) (list : List ℕ) : Type 0 where
+  pub within : All (λ unit. unit < n) list
+  pub once : EachStandsOnce n list
+
+-- a list for each atom, with a place for each unit
+pub record HasListSizes (p : PlanParts) : Type 0 where
+  pub one_each : length p.lists.rows ≡ atoms p
+  pub width : p.lists.units ≡ units p
 
 -- the first n lists are groups of all units
 abbrev pub AreGrouped : GroupLists → ℕ → Type 0

@@ -1,9 +1,8 @@
-ghost use Rattle.std.specs.Prelude.{◌≡◌, ◌==◌, ◌<◌, ◌≤◌, ◌↔◌, ℕ, IsTrue, length, All, count_by};
+ghost use Rattle.std.specs.Prelude.{◌≡◌, ◌<◌, ◌↔◌, ℕ, IsTrue, length, All};
 ghost use Rattle.hyper_model.specs.Grid.{cell};
-ghost use Rattle.hyper_model.specs.Groups.{list_of, groups_in, IsGrouped};
 ghost use Rattle.hyper_model.specs.Sums.{sum_below};
 ghost use Rattle.hyper_model.specs.Plans.{HasLists, HasLocations, HasTravel};
-ghost use Rattle.hyper_model.specs.Acceptance.{AreGrouped, AreWhole, IsRowWithin};
+ghost use Rattle.hyper_model.specs.Acceptance.{places_in, EachStandsOnce, IsFullList, HasListSizes, AreGrouped, AreWhole, IsRowWithin};
 
 use crate::{Lists, PlanParts, Table};
 
@@ -16,34 +15,42 @@ const MOST_TRAVEL: u32 = 100_000;
 pub(crate) fn has_lists(parts: &PlanParts) -> bool
     ensures { IsTrue result ↔ HasLists parts.now }
 {
-    parts.lists.atoms() == parts.atoms.len()
-        && parts.lists.units() == parts.units.len()
-        && are_grouped(&parts.lists)
+    has_list_sizes(parts) && are_grouped(&parts.lists)
+}
+
+fn has_list_sizes(parts: &PlanParts) -> bool
+    ensures { IsTrue result ↔ HasListSizes parts.now }
+{
+    parts.lists.atoms() == parts.atoms.len() && parts.lists.units() == parts.units.len()
 }
 
 fn are_grouped(lists: &Lists) -> bool
     ensures { IsTrue result ↔ AreGrouped lists.now (length lists.now.rows) }
 {
+    let units = lists.units();
     for j in 0..lists.atoms() {
-        if !is_grouped(lists.list(j), lists.units()) {
+        if !is_full(lists.list(j), units) {
             return false;
         }
     }
     true
 }
 
-/// Whether each of the first units stands once in the list, and no other does.
-fn is_grouped(list: &[u8], units: usize) -> bool
-    requires { units ≤ 12 }
-    ensures within { IsTrue result → All (λ unit. unit < units) list.now }
-    ensures once { IsTrue result → (unit : ℕ) → unit < units → count_by (λ m. m == unit) list.now ≡ 1 }
-    ensures all { All (λ unit. unit < units) list.now → ((unit : ℕ) → unit < units → count_by (λ m. m == unit) list.now ≡ 1) → IsTrue result }
+/// Whether each of the first units stands once in the list, and nothing else does.
+fn is_full(list: &[u8], units: usize) -> bool
+    ensures { IsTrue result ↔ IsFullList units list.now }
 {
-    list.iter().all(|unit| usize::from(*unit) < units) && stands_each_once(list, units)
+    are_units(list, units) && stands_each_once(list, units)
+}
+
+fn are_units(list: &[u8], units: usize) -> bool
+    ensures { IsTrue result ↔ All (λ unit. unit < units) list.now }
+{
+    list.iter().all(|unit| usize::from(*unit) < units)
 }
 
 fn stands_each_once(list: &[u8], units: usize) -> bool
-    ensures { IsTrue result ↔ ((unit : ℕ) → unit < units → count_by (λ m. m == unit) list.now ≡ 1) }
+    ensures { IsTrue result ↔ EachStandsOnce units list.now }
 {
     for unit in 0..units {
         if places_of(list, unit) != 1 {
@@ -55,9 +62,11 @@ fn stands_each_once(list: &[u8], units: usize) -> bool
 
 /// At how many places of the list the unit stands.
 fn places_of(list: &[u8], unit: usize) -> usize
-    ensures { result ≡ count_by (λ m. m == unit) list.now }
+    ensures { result ≡ places_in list.now unit }
 {
-    list.iter().filter(|member| usize::from(**member) == unit).count()
+    list.iter()
+        .filter(|member| usize::from(**member) == unit)
+        .count()
 }
 
 pub(crate) fn has_locations(parts: &PlanParts) -> bool

@@ -4,7 +4,6 @@ ghost use Rattle.hyper_model.specs.Plans.{units, atoms, unit_at, atom_at, all_ca
 use crate::acceptance::is_accepted;
 use crate::plan_sums::{calls_sum, service_sum, split_of};
 use crate::{Atom, Line, Lists, PlanParts, Rule, Table, Unit};
-
 use std::marker::Model;
 
 /// An accepted plan: parts that a fleet can have, with the sums of their rates.
@@ -31,10 +30,8 @@ impl Plan {
     /// The plan of these parts. They are handed back where a unit, an atom, a list, a table or a rate is out
     /// of its limits, or where calls would queue without end.
     pub fn of(parts: PlanParts) -> Result<Plan, PlanParts>
-        ensures {
-            MatchResult result (λ plan. (plan ≡ parts) × IsAccepted parts)
-                (λ back. (back ≡ parts) × (IsAccepted parts → ⊥))
-        }
+        ensures { MatchResult result (λ plan. (plan ≡ parts) × IsAccepted parts)
+            (λ back. (back ≡ parts) × (IsAccepted parts → ⊥)) }
     {
         if !is_accepted(&parts) {
             return Err(parts);

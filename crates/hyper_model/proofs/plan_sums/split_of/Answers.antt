@@ -1,4 +1,4 @@
-use Rattle.std.proofs.Common.{◌≡◌, ◌<◌, ◌∙◌, sym, arith, false}
+use Rattle.std.proofs.Common.{◌<◌, ◌∙◌, sym, arith}
 use Rattle.hyper_model.specs.Plans.{atoms}
 use Rattle.hyper_model.proofs.PlanSums.{split_more}
 use Rattle.hyper_model.proofs.plan_sums.split_of.Goals as goal
