@@ -1,4 +1,4 @@
-use Rattle.std.proofs.Common.{◌≡◌, ◌++◌, ℕ, List}
+use Rattle.std.proofs.Common.{◌++◌}
 use Rattle.std.specs.Prelude.{codes}
 use Rattle.report_text.specs.Labels.{atom_name, unit_name}
 use Rattle.report_text.proofs.GroupLines.{start_text, next_text}
