@@ -27,4 +27,4 @@ pub cleaned-field : (fields : Fields) (place : ℕ) → place < length (cleaned 
 cleaned-field fields place lt =
     let all : Fields = map without_blanks fields in
     sym (ap (λ (xs : Fields). slice_index_or xs place []) (drop_last_while-take is_empty_field all)
-        ∙ get_or-take (length (cleaned fields)) all place [] lt)
+    ∙ get_or-take (length (cleaned fields)) all place [] lt)

@@ -245,6 +245,7 @@ reading_of-fits number groups row r h = few (nat_lt 50000 number) refl h
         let (found, read, last) = bind-ok (record_of_kind (kind_of groups (field row 0)) number row) _ (Some r) q in
         let is : found ≡ r = cc in
         rw (sym is) (record_of_kind-fits (kind_of groups (field row 0)) number row found read)
+
     few : (many : Bool) → nat_lt 50000 number ≡ many
         → (if many then Err (TooManyRecords number) else if is_passed_over row then Ok None
         else (record_of_kind (kind_of groups (field row 0)) number row >>= λ found. Ok (Some found))) ≡ Ok (Some r)
@@ -274,7 +275,7 @@ records_after-in_form before (row ∷ rows) found h =
     let is : option_to_list read ++ others ≡ found = cc in
     let size : length (before ++ row ∷ []) ≡ length before + 1 = length-append before (row ∷ []) in
     let so : IsInFormFrom (length before + 1 + 1) others =
-        rw size at (records_after-in_form (before ++ row ∷ []) rows others more) in
+    rw size at (records_after-in_form (before ++ row ∷ []) rows others more) in
     rw (sym is) (behind read one others so)
   where
     behind : (read : Option Record) → row_reading before row ≡ Ok read → (others : List Record)
@@ -283,7 +284,7 @@ records_after-in_form before (row ∷ rows) found h =
     behind (Some r) one others so =
         let (fits, few) = reading_of-fits (length before + 1) (list_any is_version_two before) row r one in
         let first : IsFrom (length before + 1) r =
-            record { values = fits.values; low = omega (arith, fits.number); high = omega (arith, fits.number, few) } in
+        record { values = fits.values; low = omega (arith, fits.number); high = omega (arith, fits.number, few) } in
         record {
           each = All-cons (IsFrom (length before + 1)) r others first (later (length before + 1) others so.each);
           rising = AllPairs-cons (λ earlier later. at_of earlier < at_of later) r others
@@ -299,9 +300,3 @@ records_after-form rows found h =
       numbers = λ k d lt. let r = so.each k d lt in record { low = omega (arith, r.low); high = r.high };
       rising = so.rising;
     }
-
--- what a call answers is in form, where it gives the records of rows
-pub gives-form : {X : Type 0} (wants : TextRefusal) (view : X → List Record) (result : Result X TextRefusal) (rows : List Fields)
-    → Gives wants view result (records_after [] rows) → IfOk result (λ x. IsInForm (view x))
-gives-form wants view (Ok x) rows h = records_after-form rows (view x) h
-gives-form wants view (Err e) rows h = tt

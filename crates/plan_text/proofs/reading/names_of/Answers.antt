@@ -28,4 +28,4 @@ loop-place-preserved c =
 pub returns : goal.returns
 returns c =
     sym c.loop-place.invariant.read
-        ∙ names_at-done c.args.at c.args.row.now c.loop-place.place c.loop-place.names (omega (arith, c.loop-place-test.false, c.len-place-end.ensures))
+    ∙ names_at-done c.args.at c.args.row.now c.loop-place.place c.loop-place.names (omega (arith, c.loop-place-test.false, c.len-place-end.ensures))
