@@ -1,5 +1,5 @@
 -- The fields of a cleaned record, one by one.
-use Rattle.std.proofs.Common.{◌≡◌, ◌∙◌, ◌<◌, ℕ, zero, suc, List, [], ◌∷◌, Option, Some, None, length, map, slice_index_or, ap, sym, arith}
+use Rattle.std.proofs.Common.{◌≡◌, ◌∙◌, ◌<◌, ℕ, zero, suc, List, [], ◌∷◌, Some, None, length, map, slice_index_or, ap, sym, arith}
 use Rattle.std.proofs.lemmas.List.{get_or-take, get_or_past}
 use Rattle.csv.specs.Records.{field_at}
 use Rattle.plan_text.specs.Rows.{Fields, cleaned, is_empty_field, without_blanks}

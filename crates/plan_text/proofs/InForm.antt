@@ -1,6 +1,6 @@
 -- What was read is in form.
-use Rattle.std.proofs.Common.{◌≡◌, ◌∙◌, ℕ, zero, suc, ◌+◌, ◌-◌, ◌<◌, ◌≤◌, List, [], ◌∷◌, ◌++◌, length, refl, sym, ap, subst, arith}
-use Rattle.std.specs.Prelude.{Bool, true, false, ◌&&◌, if◌then◌else◌, nat_le, nat_lt, Option, Some, None, Result, Ok, Err, All, AllPairs, IfOk}
+use Rattle.std.proofs.Common.{◌≡◌, ℕ, zero, suc, ◌+◌, ◌-◌, ◌<◌, ◌≤◌, List, [], ◌∷◌, ◌++◌, length, refl, sym, ap, arith}
+use Rattle.std.specs.Prelude.{Bool, true, false, ◌&&◌, if◌then◌else◌, nat_lt, Option, Some, None, Result, Ok, Err, All, AllPairs}
 use Rattle.std.specs.List.{list_any}
 use Rattle.std.specs.Option.{ok_or, option_to_list}
 use Rattle.std.specs.Str.{is_utf8}
@@ -16,13 +16,13 @@ use Rattle.plan_text.specs.Form.{AreNames, HasValues, IsInForm, IsName, at_of}
 use Rattle.plan_text.specs.Kinds.{has_field_count, is_passed_over, is_version_two, kind_of}
 use Rattle.plan_text.specs.Reading.{atom_of, group_of, line_of, located_of, names_at, period_of, prefer_of, reading_of, record_of, record_of_kind, records_after, row_reading, rule_of, travel_of, unit_of, version_of}
 use Rattle.plan_text.specs.Rows.{Fields}
-use Rattle.plan_text.specs.Steps.{◌>>=◌, Gives}
+use Rattle.plan_text.specs.Steps.{◌>>=◌}
 use Rattle.plan_text.specs.declared.kind.Kind.{Kind}
 use Rattle.plan_text.specs.declared.kind.Kind.TheVariants as kind
 use Rattle.plan_text.specs.declared.record.Record.{Record}
 use Rattle.plan_text.specs.declared.record.Record.TheVariants as rec
 use Rattle.plan_text.specs.declared.refusal.TextRefusal.{TextRefusal}
-use Rattle.plan_text.specs.declared.refusal.TextRefusal.TheVariants.{BadName, BadNumber, FieldCount, NotUtf8, TooManyRecords, UnknownKind}
+use Rattle.plan_text.specs.declared.refusal.TextRefusal.TheVariants.{BadName, BadNumber, FieldCount, NotUtf8, TooManyRecords}
 
 -- a step that gave something went on from what the step before it gave
 pub bind-ok : {A B E : Type 0} (given : Result A E) (next : A → Result B E) (y : B) → (given >>= next) ≡ Ok y

@@ -1,6 +1,6 @@
 -- A list without what passes a test at its end.
-use Rattle.std.proofs.Common.{◌≡◌, ◌∙◌, ◌<◌, ◌≤◌, ◌⊎◌, ℕ, ◌+◌, ◌-◌, Bool, true, false, List, [], ◌∷◌, ◌++◌, take, length, reverse, slice_index_or, refl, sym, ap, inl, inr, arith}
-use Rattle.std.proofs.lemmas.List.{reverse-append, reverse-reverse, take_at, take_more}
+use Rattle.std.proofs.Common.{◌≡◌, ◌∙◌, Bool, true, false, List, [], ◌∷◌, ◌++◌, take, length, reverse, refl, sym, ap}
+use Rattle.std.proofs.lemmas.List.{reverse-append, reverse-reverse, take_at}
 use Rattle.plan_text.specs.Rows.{drop_while, drop_last_while}
 
 -- what is dropped at the front

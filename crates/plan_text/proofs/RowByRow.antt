@@ -1,6 +1,6 @@
 -- Rows that are read one by one, each behind those before it.
-use Rattle.std.proofs.Common.{◌≡◌, ◌∙◌, ℕ, zero, suc, ◌+◌, ◌-◌, ◌<◌, ◌≤◌, List, [], ◌∷◌, ◌++◌, length, take, drop, refl, sym, ap, arith, append_assoc}
-use Rattle.std.specs.Prelude.{Bool, false, ◌||◌, Option, Some, None, Result, Ok, Err, IsOk, slice_index_or}
+use Rattle.std.proofs.Common.{◌≡◌, ◌∙◌, ℕ, zero, suc, ◌+◌, ◌<◌, ◌≤◌, List, [], ◌∷◌, ◌++◌, length, take, drop, refl, ap, arith, append_assoc}
+use Rattle.std.specs.Prelude.{Bool, false, ◌||◌, Option, Result, Ok, Err, IsOk, slice_index_or}
 use Rattle.std.specs.List.{list_any}
 use Rattle.std.specs.Option.{option_to_list}
 use Rattle.std.proofs.lemmas.List.{append-nil, drop_all, length-take-le, take_more}
