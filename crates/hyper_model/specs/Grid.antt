@@ -1,5 +1,5 @@
 -- what contracts see of a table of whole numbers: its rows one after the other
-use Rattle.std.specs.Prelude.{◌≡◌, ◌≢◌, ℕ, ◌+◌, ◌*◌, ◌<◌, ◌≤◌, ◌⊎◌, List, length, slice_index_or}
+use Rattle.std.specs.Prelude.{◌≡◌, ◌≢◌, ℕ, ◌+◌, ◌*◌, ◌<◌, ◌≤◌, ◌⊎◌, List, length, replicate, slice_set, slice_index_or}
 
 pub record Grid : Type 0 where
   pub rows : ℕ
@@ -15,6 +15,14 @@ pub record IsSized (grid : Grid) : Type 0 where
 -- the cell in row r and column c
 abbrev pub cell : Grid → ℕ → ℕ → ℕ
 cell grid r c = slice_index_or grid.cells (r * grid.cols + c) 0
+
+-- a table of zeros
+abbrev pub zero_grid : ℕ → ℕ → Grid
+zero_grid rows cols = record { rows = rows; cols = cols; cells = replicate (rows * cols) 0 }
+
+-- the table with this value in the cell (r, c)
+abbrev pub with_cell : Grid → ℕ → ℕ → ℕ → Grid
+with_cell grid r c value = record grid { cells = slice_set grid.cells (r * grid.cols + c) value }
 
 -- the cell (r, c) has this value, and all else is as it was
 pub record SetsCell (old new : Grid) (r c value : ℕ) : Type 0 where

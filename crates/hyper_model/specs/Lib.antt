@@ -7,5 +7,9 @@ pub mod Plans
 pub mod Words
 pub mod Rates
 pub mod Solutions
+pub mod Tables
 pub mod Measures
+pub mod Laws
 pub mod Enclosures
+pub mod Acceptance
+pub mod TravelTimes

@@ -46,9 +46,9 @@ abbrev pub takes : PlanParts → ℕ → ℕ → ℕ → Bool
 takes p j word n = is_taker (groups_of p j) word n
 
 -- to how many units a call of atom j can go
-abbrev pub takers : PlanParts → ℕ → ℕ → ℕ
-takers p j word = sum_below (units p) (λ n. if takes p j word n then 1 else 0)
+abbrev pub taker_count : PlanParts → ℕ → ℕ → ℕ
+taker_count p j word = sum_below (units p) (λ n. if takes p j word n then 1 else 0)
 
 -- the share of such a call that each of them has, of `split p` shares
 abbrev pub portion : PlanParts → ℕ → ℕ → ℕ
-portion p j word = split p / takers p j word
+portion p j word = split p / taker_count p j word

@@ -1,5 +1,5 @@
 ghost use Rattle.std.specs.Prelude.{◌≡◌, ◌≢◌, ◌+◌, ◌*◌, ◌<◌, ◌≤◌, ◌⊎◌, ℕ, length, vec_len, IfOk};
-ghost use Rattle.hyper_model.specs.Grid.{Grid, cell, IsSized, SetsCell};
+ghost use Rattle.hyper_model.specs.Grid.{Grid, cell, zero_grid, with_cell, IsSized, SetsCell};
 
 use std::alloc::{AllocError, Global};
 use std::marker::Model;
@@ -25,8 +25,7 @@ impl Table {
     pub fn of(alloc: Global, rows: usize, cols: usize) -> Result<Table, AllocError>
         requires rows { rows ≤ 200 }
         requires cols { cols ≤ 200 }
-        ensures size { IfOk result (λ table. (table.rows ≡ rows) × (table.cols ≡ cols)) }
-        ensures zeros { IfOk result (λ table. (r c : ℕ) → r < rows → c < cols → cell table r c ≡ 0) }
+        ensures { IfOk result (λ table. table ≡ zero_grid rows cols) }
     {
         let cells = vec![in alloc; 0; rows * cols]?;
         Ok(Table { rows, cols, cells })
@@ -61,7 +60,8 @@ impl Table {
     pub fn set(&mut self, r: usize, c: usize, value: u32)
         requires row { r < self.old.rows }
         requires col { c < self.old.cols }
-        ensures { SetsCell self.old self.new r c value }
+        ensures table { self.new ≡ with_cell self.old r c value }
+        ensures sets { SetsCell self.old self.new r c value }
     {
         self.cells[r * self.cols + c] = value;
     }

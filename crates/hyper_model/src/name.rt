@@ -58,6 +58,15 @@ impl Name {
         }
     }
 
+    /// The same name once more.
+    pub fn copied(&self, alloc: Global) -> Result<Name, AllocError>
+        ensures { IfOk result (λ name. name ≡ self.now) }
+    {
+        Ok(Name {
+            text: String::from_str(alloc, self.text())?,
+        })
+    }
+
     /// Its text.
     pub fn text(&self) -> &str
         ensures text { result.now ≡ self.now }
@@ -137,4 +146,3 @@ impl fmt::Display for Name {
         f.write_str(self.text())
     }
 }
-

@@ -1,0 +1,5 @@
+use Rattle.hyper_model.proofs.PlanLaws.{has_solution}
+use Rattle.hyper_model.proofs.laws.law_existence.Goals as goal
+
+pub returns : goal.returns
+returns c = has_solution c.args.plan.now c.calls-calls.ensures.accepted

@@ -1,0 +1,8 @@
+use Rattle.hyper_model.proofs.PlanLaws.{words_are_positive, tail_is_positive}
+use Rattle.hyper_model.proofs.laws.law_positive.Goals as goal
+
+pub returns : goal.returns
+returns c = record {
+  words = words_are_positive c.args.plan.now c.calls-calls.ensures.accepted;
+  waiting = tail_is_positive c.args.plan.now c.calls-calls.ensures.accepted;
+}

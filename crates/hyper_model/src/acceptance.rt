@@ -1,0 +1,147 @@
+ghost use Rattle.std.specs.Prelude.{◌≡◌, ◌<◌, ◌≤◌, ◌↔◌, ℕ, IsTrue, length};
+ghost use Rattle.hyper_model.specs.Plans.{units, atoms, all_calls, all_service, unit_at, atom_at, IsBetween, IsPlaced, HasUnits, HasAtoms, HasLists, HasLocations, HasTravel, IsStable, IsAccepted};
+ghost use Rattle.hyper_model.specs.Acceptance.{HaveOwnNames, IsNamedBefore, unit_name, atom_name, HaveRates, ArePlaced};
+
+use crate::acceptance_tables::{has_lists, has_locations, has_travel};
+use crate::plan_sums::{calls_sum, service_sum};
+use crate::{Atom, Line, MOST_ATOMS, MOST_UNITS, PlanParts};
+
+/// The highest rate of a unit, of an atom, of all units or of all atoms, and the highest coordinate.
+const MOST_RATE: u32 = 1_000_000;
+
+/// The longest period, in seconds.
+const MOST_PERIOD: u32 = 100_000_000;
+
+/// Whether a fleet can have these parts.
+pub(crate) fn is_accepted(parts: &PlanParts) -> bool
+    ensures { IsTrue result ↔ IsAccepted parts.now }
+{
+    has_units(parts)
+        && has_atoms(parts)
+        && has_lists(parts)
+        && has_locations(parts)
+        && has_travel(parts)
+        && is_period(parts.period)
+        && is_stable(parts)
+}
+
+fn is_period(period: u32) -> bool
+    ensures { IsTrue result ↔ IsBetween 1 100000000 period }
+{
+    1 <= period && period <= MOST_PERIOD
+}
+
+fn is_stable(parts: &PlanParts) -> bool
+    ensures { IsTrue result ↔ IsStable parts.now.line (all_calls parts.now) (all_service parts.now) }
+{
+    match parts.line {
+        Line::Zero => true,
+        Line::Infinite => calls_sum(parts) < service_sum(parts),
+    }
+}
+
+fn has_units(parts: &PlanParts) -> bool
+    ensures { IsTrue result ↔ HasUnits parts.now }
+{
+    1 <= parts.units.len()
+        && parts.units.len() <= MOST_UNITS
+        && has_unit_names(parts)
+        && has_unit_rates(parts)
+        && service_sum(parts) <= u64::from(MOST_RATE)
+}
+
+fn has_unit_names(parts: &PlanParts) -> bool
+    ensures { IsTrue result ↔ HaveOwnNames (units parts.now) (unit_name parts.now) }
+{
+    for n in 0..parts.units.len() {
+        if is_unit_named_before(parts, n) {
+            return false;
+        }
+    }
+    true
+}
+
+fn is_unit_named_before(parts: &PlanParts, n: usize) -> bool
+    requires { n < units parts.now }
+    ensures { IsTrue result ↔ IsNamedBefore n (unit_name parts.now) }
+{
+    let unit = parts.units.get(n);
+    for m in 0..n {
+        if parts.units.get(m).name == unit.name {
+            return true;
+        }
+    }
+    false
+}
+
+fn has_unit_rates(parts: &PlanParts) -> bool
+    ensures { IsTrue result ↔ HaveRates parts.now }
+{
+    for n in 0..parts.units.len() {
+        if !is_rate(parts.units.get(n).rate) {
+            return false;
+        }
+    }
+    true
+}
+
+fn is_rate(rate: u32) -> bool
+    ensures { IsTrue result ↔ IsBetween 1 1000000 rate }
+{
+    1 <= rate && rate <= MOST_RATE
+}
+
+fn has_atoms(parts: &PlanParts) -> bool
+    ensures { IsTrue result ↔ HasAtoms parts.now }
+{
+    1 <= parts.atoms.len()
+        && parts.atoms.len() <= MOST_ATOMS
+        && has_atom_names(parts)
+        && has_atom_places(parts)
+        && 1 <= calls_sum(parts)
+        && calls_sum(parts) <= u64::from(MOST_RATE)
+}
+
+fn has_atom_names(parts: &PlanParts) -> bool
+    ensures { IsTrue result ↔ HaveOwnNames (atoms parts.now) (atom_name parts.now) }
+{
+    for j in 0..parts.atoms.len() {
+        if is_atom_named_before(parts, j) {
+            return false;
+        }
+    }
+    true
+}
+
+fn is_atom_named_before(parts: &PlanParts, j: usize) -> bool
+    requires { j < atoms parts.now }
+    ensures { IsTrue result ↔ IsNamedBefore j (atom_name parts.now) }
+{
+    let atom = parts.atoms.get(j);
+    for i in 0..j {
+        if parts.atoms.get(i).name == atom.name {
+            return true;
+        }
+    }
+    false
+}
+
+fn has_atom_places(parts: &PlanParts) -> bool
+    ensures { IsTrue result ↔ ArePlaced parts.now }
+{
+    for j in 0..parts.atoms.len() {
+        if !is_placed(parts.atoms.get(j), parts.units.len()) {
+            return false;
+        }
+    }
+    true
+}
+
+fn is_placed(atom: &Atom, units: usize) -> bool
+    ensures { IsTrue result ↔ IsPlaced units atom.now }
+{
+    atom.rate <= MOST_RATE
+        && atom.x <= MOST_RATE
+        && atom.y <= MOST_RATE
+        && usize::from(atom.district) < units
+}

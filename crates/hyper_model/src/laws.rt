@@ -1,0 +1,49 @@
+//! The laws of the model, over its definitions alone (Larson 1974; Larson and Odoni, Urban Operations
+//! Research, chapter 5). Their calls answer nothing: each one's contract is a theorem on the plan.
+ghost use Rattle.hyper_model.specs.Solutions.{HasSolution};
+ghost use Rattle.hyper_model.specs.Laws.{AreWordsPositive, IsTailPositive, AreWordsProportional, IsTailProportional, HaveOneValue, TailLaw, LevelsLaw};
+
+use crate::Plan;
+
+/// The balance equations have a solution in whole numbers, not all 0.
+///
+/// Its proof takes one word away after the other (Grassmann, Taksar and Heyman 1985).
+pub fn law_existence(plan: &Plan)
+    ensures { HasSolution plan.now }
+{
+    let _calls = plan.calls();
+}
+
+/// In every solution each word has a mass, and so have the waiting calls where calls wait.
+pub fn law_positive(plan: &Plan)
+    ensures words { AreWordsPositive plan.now }
+    ensures waiting { IsTailPositive plan.now }
+{
+    let _calls = plan.calls();
+}
+
+/// Any two solutions are proportional, so that every measure, a ratio of masses, has one value.
+pub fn law_proportion(plan: &Plan)
+    ensures words { AreWordsProportional plan.now }
+    ensures waiting { IsTailProportional plan.now }
+    ensures measures { HaveOneValue plan.now }
+{
+    let _calls = plan.calls();
+}
+
+/// With any number of waiting places, from one on, the words have the balance that they have without any,
+/// and the waiting calls have the balance of the line without end, but for the calls that find no place.
+pub fn law_tail(plan: &Plan)
+    ensures { TailLaw plan.now }
+{
+    let _calls = plan.calls();
+}
+
+/// Where all units serve at one rate, the number of busy units is distributed as in Erlang's loss model:
+/// `k + 1` times this rate times the mass of the words with `k + 1` busy units is the rate of all calls
+/// times the mass of those with `k`.
+pub fn law_levels(plan: &Plan)
+    ensures { LevelsLaw plan.now }
+{
+    let _calls = plan.calls();
+}
