@@ -300,17 +300,7 @@ records_after-form rows found h =
       numbers = λ k d lt. let r = so.each k d lt in record { low = omega (arith, r.low); high = r.high };
       rising = so.rising;
     }
-<<<<<<< HEAD
-
--- what a call answers is in form, where it gives the records of rows
-pub gives-form : {X : Type 0} (wants : TextRefusal) (view : X → List Record) (result : Result X TextRefusal) (rows : List Fields)
-    → Gives wants view result (records_after [] rows) → IfOk result (λ x. IsInForm (view x))
-gives-form wants view (Ok x) rows h = records_after-form rows (view x) h
-gives-form wants view (Err e) rows h = tt
-
 -- the values of a record that a row says are in range
 pub reading_of-values : (number : ℕ) (groups : Bool) (row : Fields) (r : Record)
     → reading_of number groups row ≡ Ok (Some r) → HasValues r
 reading_of-values number groups row r h = (reading_of-fits number groups row r h).0.values
-=======
->>>>>>> 4465c97677a68351dffb070cad60a1a2e470deff
