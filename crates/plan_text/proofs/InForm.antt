@@ -300,6 +300,7 @@ records_after-form rows found h =
       numbers = λ k d lt. let r = so.each k d lt in record { low = omega (arith, r.low); high = r.high };
       rising = so.rising;
     }
+
 -- the values of a record that a row says are in range
 pub reading_of-values : (number : ℕ) (groups : Bool) (row : Fields) (r : Record)
     → reading_of number groups row ≡ Ok (Some r) → HasValues r
