@@ -1,5 +1,5 @@
 -- How a run ends, by what came of the reading and of the writing.
-use Rattle.std.proofs.Common.{◌≡◌, ℕ, ◌⊎◌, inl, inr, List, [], ◌∷◌, ◌++◌, refl, sym, ap, ◌∙◌, subst, append_nil}
+use Rattle.std.proofs.Common.{◌≡◌, ℕ, ◌⊎◌, inl, inr, List, [], ◌∷◌, ◌++◌, refl, sym, ap, ◌∙◌, subst, append-nil}
 use Rattle.std.specs.Prelude.{Option, Some, None, Result, Ok, Err, All, IfSome, IfOk}
 use Rattle.std.specs.Option.{option_map}
 use Rattle.std.specs.Io.KnownBytes.{Appends, Keeps}
@@ -24,7 +24,7 @@ use Rattle.hypercube_cli.proofs.OneUnitAccepted.{one_unit_accepted}
 
 appends_nothing : (known : Option (List ℕ)) → Appends known known []
 appends_nothing None = tt
-appends_nothing (Some xs) = sym (append_nil xs)
+appends_nothing (Some xs) = sym (append-nil xs)
 
 keeps_known : (known : Option (List ℕ)) → Keeps known known
 keeps_known None = tt

@@ -29,11 +29,15 @@ pub said_more : (rows : List Fields) (place : ℕ) (row : Fields) (read : Option
     → behind front (records_said (drop place rows)) ≡ total
     → behind after (records_said (drop (place + 1) rows)) ≡ total
 said_more rows place row read front after total inside is said kept so_far =
+    let step : records_said (drop place rows)
+        ≡ option_map (λ rs. option_to_list read ++ rs) (records_said (drop (place + 1) rows)) =
+        said_from rows place row inside is ∙ rw (← said) refl in
     rw kept (behind_part front (option_to_list read) (records_said (drop (place + 1) rows))
-    ∙ ap (behind front) (sym (said_from rows place row inside is ∙ rw (← said) refl)) ∙ so_far)
+    ∙ ap (behind front) (sym step) ∙ so_far)
 
 pub said_none : (rows : List Fields) (place : ℕ) (row : Fields) (front : List Record) (total : Option (List Record))
     → place < length rows → get_or rows place [] ≡ row → None ≡ result_ok (reading_of 1 false row)
     → behind front (records_said (drop place rows)) ≡ total → None ≡ total
 said_none rows place row front total inside is said so_far =
-    ap (behind front) (sym (said_from rows place row inside is ∙ rw (← said) refl)) ∙ so_far
+    let step : records_said (drop place rows) ≡ None = said_from rows place row inside is ∙ rw (← said) refl in
+    ap (behind front) (sym step) ∙ so_far
