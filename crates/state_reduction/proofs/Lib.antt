@@ -1,0 +1,4 @@
+-- lemmas, each file on one subject
+pub mod Steps
+pub mod Soundness
+pub mod FarZeros

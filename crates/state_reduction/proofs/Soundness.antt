@@ -1,0 +1,52 @@
+-- After any number of eliminations the ends are in order and under the caps, and what leads to earlier states stays.
+use Rattle.std.proofs.Common.{◌≡◌, ◌≢◌, ℕ, zero, suc, ◌-◌, ◌<◌, ◌≤◌, arith}
+use Rattle.hyper_model.specs.Sums.{sum_below}
+use Rattle.hyper_model.proofs.Sums.{place_le_sum}
+use Rattle.rate_matrix.specs.Elimination.{Entries, IsLive, IsWithin, eliminated, left_after}
+use Rattle.state_reduction.specs.Laws.{IsRaisedFrom, StaysSound}
+use Rattle.state_reduction.proofs.Steps.{eliminated-within, eliminated-live, eliminated-grows}
+
+-- the ends in order and under the caps, and enough of them to earlier states
+pub record IsSound (size least : ℕ) (caps : ℕ → ℕ) (entries : Entries) : Type 0 where
+  pub within : IsWithin size caps entries
+  pub live : IsLive size least entries
+
+pub eliminated-sound : (size least : ℕ) (caps : ℕ → ℕ) (entries : Entries) (t : ℕ) → t < size
+    → IsSound size least caps entries → IsSound size least caps (eliminated entries caps t)
+eliminated-sound size least caps entries t alive sound = record {
+  within = eliminated-within size caps entries t alive sound.within;
+  live = eliminated-live size least caps entries t sound.within sound.live;
+}
+
+pub left_after-sound : (size least : ℕ) (caps : ℕ → ℕ) (entries : Entries) (k : ℕ) → k < size
+    → IsSound size least caps entries → IsSound size least caps (left_after entries caps size k)
+unfolding left_after
+left_after-sound size least caps entries zero some sound = record {
+  within = record { ordered = sound.within.ordered; capped = sound.within.capped };
+  live = record { leaves = sound.live.leaves };
+}
+left_after-sound size least caps entries (suc k) some sound =
+    eliminated-sound size least caps (left_after entries caps size k) (size - suc k) (omega arith)
+    (left_after-sound size least caps entries k (omega arith) sound)
+
+-- no low end is lower than it was at the beginning
+pub left_after-grows : (size least : ℕ) (caps : ℕ → ℕ) (entries : Entries) (k : ℕ) → k < size
+    → IsSound size least caps entries → IsRaisedFrom size entries (left_after entries caps size k)
+unfolding left_after
+left_after-grows size least caps entries zero some sound = record {
+  raises = λ i j row column apart. omega arith;
+}
+left_after-grows size least caps entries (suc k) some sound =
+    let before = left_after-grows size least caps entries k (omega arith) sound in
+    let here = left_after-sound size least caps entries k (omega arith) sound in
+    record {
+      raises = λ i j row column apart.
+          omega (arith, before.raises i j row column apart,
+            eliminated-grows size caps (left_after entries caps size k) (size - suc k) here.within i j row column apart);
+    }
+
+pub stays_sound : StaysSound
+stays_sound size least caps entries within live k some =
+    let sound : IsSound size least caps entries = record { within = within; live = live } in
+    let left = left_after-sound size least caps entries k some sound in
+    (left.within, left.live, left_after-grows size least caps entries k some sound)

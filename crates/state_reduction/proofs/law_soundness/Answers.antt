@@ -1,0 +1,5 @@
+use Rattle.state_reduction.proofs.Soundness.{stays_sound}
+use Rattle.state_reduction.proofs.law_soundness.Goals as goal
+
+pub returns : goal.returns
+returns c = stays_sound
