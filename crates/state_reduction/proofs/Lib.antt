@@ -2,3 +2,5 @@
 pub mod Steps
 pub mod Soundness
 pub mod FarZeros
+pub mod Enclosing
+pub mod Runs
