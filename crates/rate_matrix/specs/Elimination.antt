@@ -9,6 +9,10 @@ use Rattle.hyper_model.specs.Tables.{RateTable, between_states}
 abbrev pub Entries : Type 0
 Entries = ℕ → ℕ → Ends
 
+-- the same entries between different states of the first ones
+pub record SameEntries (size : ℕ) (a b : Entries) : Type 0 where
+  pub same : (i j : ℕ) → i < size → j < size → i ≢ j → a i j ≡ b i j
+
 -- the sum of a row's entries to the first n states
 abbrev pub total_below : (ℕ → Ends) → ℕ → Ends
 total_below row n = between (sum_below n (λ k. (row k).lo)) (sum_below n (λ k. (row k).hi))

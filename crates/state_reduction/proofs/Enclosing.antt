@@ -22,14 +22,20 @@ pub record LiesIn (n scale : ℕ) (rates : RateTable) (caps : ℕ → ℕ) (entr
 sum_low : (n s : ℕ) (row : ℕ → Ends) (e : ℕ → ℕ) → ((k : ℕ) → k < n → Encloses (row k) (e k) s)
     → (total_below row n).lo * s ≤ sum_below n e
 sum_low n s row e inside =
-    omega (arith, sum-scaled n s (λ k. (row k).lo),
-      sum-le n (λ k. s * (row k).lo) e (λ k l. omega (arith, (inside k l).low)))
+    omega (
+      arith,
+      sum-scaled n s (λ k. (row k).lo),
+      sum-le n (λ k. s * (row k).lo) e (λ k l. omega (arith, (inside k l).low)),
+    )
 
 sum_high : (n s : ℕ) (row : ℕ → Ends) (e : ℕ → ℕ) → ((k : ℕ) → k < n → Encloses (row k) (e k) s)
     → sum_below n e ≤ (total_below row n).hi * s
 sum_high n s row e inside =
-    omega (arith, sum-scaled n s (λ k. (row k).hi),
-      sum-le n e (λ k. s * (row k).hi) (λ k l. omega (arith, (inside k l).high)))
+    omega (
+      arith,
+      sum-scaled n s (λ k. (row k).hi),
+      sum-le n e (λ k. s * (row k).hi) (λ k l. omega (arith, (inside k l).high)),
+    )
 
 pub encloses_total : (n s : ℕ) (row : ℕ → Ends) (e : ℕ → ℕ) → ((k : ℕ) → k < n → Encloses (row k) (e k) s)
     → Encloses (total_below row n) (sum_below n e) s
@@ -54,13 +60,19 @@ encloses_rest n s row e j here inside = record {
   low =
       low_rest (total_below row n).lo (row j).lo s (sum_below n e) (e j) (place_le_sum n (λ k. (row k).lo) j here)
       (place_le_sum n e j here)
-      (omega (arith, sum-scaled n s (λ k. (row k).lo),
-        rest_le n (λ k. s * (row k).lo) e j here (λ k l. omega (arith, (inside k l).low))));
+      (omega (
+        arith,
+        sum-scaled n s (λ k. (row k).lo),
+        rest_le n (λ k. s * (row k).lo) e j here (λ k l. omega (arith, (inside k l).low)),
+      ));
   high =
       high_rest (total_below row n).hi (row j).hi s (sum_below n e) (e j) (place_le_sum n (λ k. (row k).hi) j here)
       (place_le_sum n e j here)
-      (omega (arith, sum-scaled n s (λ k. (row k).hi),
-        rest_le n e (λ k. s * (row k).hi) j here (λ k l. omega (arith, (inside k l).high))));
+      (omega (
+        arith,
+        sum-scaled n s (λ k. (row k).hi),
+        rest_le n e (λ k. s * (row k).hi) j here (λ k l. omega (arith, (inside k l).high)),
+      ));
 }
 
 -- the part of a rate in all that leaves state m for earlier states
@@ -71,7 +83,7 @@ encloses_part_to m s e a j here inside =
     let whole : e m j + (sum_below m (e m) - e m j) ≡ sum_below m (e m) =
     omega (arith, place_le_sum m (e m) j here) in
     rw whole at (encloses_share (a m j) (without_ends (total_below (a m) m) (a m j)) (part_to a m j) (2 ^ 62) refl
-      (e m j) (sum_below m (e m) - e m j) s (inside j here) (encloses_rest m s (a m) (e m) j here inside))
+    (e m j) (sum_below m (e m) - e m j) s (inside j here) (encloses_rest m s (a m) (e m) j here inside))
 
 -- the row of the smaller table, in its larger scale
 pub smaller_rows : (m s : ℕ) (e : RateTable) (caps : ℕ → ℕ) (i : ℕ) → sum_below (suc m) (e i) ≤ caps i * s
@@ -94,9 +106,12 @@ encloses_raised m s e caps a lies i j row column apart =
     (raised (a i j) (a i m) (part_to a m j) (caps i)) (caps i) refl
     (sum_below m (e m) * e i j) (e i m * e m j) (s * sum_below m (e m)) old
     (encloses_times_part (a i m) (part_to a m j) (times_part_ends (a i m) (part_to a m j)) refl
-      (e i m) s (e m j) (sum_below m (e m)) into part)
-    (omega (arith, place_le_sum m (without_last m e i) j column,
-      smaller_rows m s e caps i (lies.rows i (omega arith))))
+    (e i m) s (e m j) (sum_below m (e m)) into part)
+    (omega (
+      arith,
+      place_le_sum m (without_last m e i) j column,
+      smaller_rows m s e caps i (lies.rows i (omega arith)),
+    ))
 
 -- what leaves the last state has a rate where the low ends of its entries are not all 0
 pub leaves_some : (m s : ℕ) (e : RateTable) (caps : ℕ → ℕ) (a : Entries) → LiesIn (suc m) s e caps a
@@ -119,14 +134,20 @@ eliminated-lies m s e caps a lies live = record {
 flow_low : (n s : ℕ) (y : ℕ → ℕ) (a : ℕ → Ends) (e : ℕ → ℕ) → ((i : ℕ) → i < n → Encloses (a i) (e i) s)
     → sum_below n (λ i. y i * (a i).lo) * s ≤ sum_below n (λ i. y i * e i)
 flow_low n s y a e inside =
-    omega (arith, sum-scaled n s (λ i. y i * (a i).lo),
-      sum-le n (λ i. s * (y i * (a i).lo)) (λ i. y i * e i) (λ i l. omega (arith, mul-le-mul_left (y i) (inside i l).low)))
+    omega (
+      arith,
+      sum-scaled n s (λ i. y i * (a i).lo),
+      sum-le n (λ i. s * (y i * (a i).lo)) (λ i. y i * e i) (λ i l. omega (arith, mul-le-mul_left (y i) (inside i l).low)),
+    )
 
 flow_high : (n s : ℕ) (y : ℕ → ℕ) (a : ℕ → Ends) (e : ℕ → ℕ) → ((i : ℕ) → i < n → Encloses (a i) (e i) s)
     → sum_below n (λ i. y i * e i) ≤ sum_below n (λ i. y i * (a i).hi) * s
 flow_high n s y a e inside =
-    omega (arith, sum-scaled n s (λ i. y i * (a i).hi),
-      sum-le n (λ i. y i * e i) (λ i. s * (y i * (a i).hi)) (λ i l. omega (arith, mul-le-mul_left (y i) (inside i l).high)))
+    omega (
+      arith,
+      sum-scaled n s (λ i. y i * (a i).hi),
+      sum-le n (λ i. y i * e i) (λ i. s * (y i * (a i).hi)) (λ i l. omega (arith, mul-le-mul_left (y i) (inside i l).high)),
+    )
 
 -- the last state is in balance with the states before it
 pub holds_last : (m s : ℕ) (e : RateTable) (caps : ℕ → ℕ) (a : Entries) (y : ℕ → ℕ) → LiesIn (suc m) s e caps a

@@ -68,18 +68,18 @@ eliminated-zeros size level entries caps t alive sorted zero_far = record {
   zeros = λ i j row column far.
       let none = zero_far.zeros i j row column far in
       at_entry (λ e. e ≡ exact_ends 0) entries caps t i j (far-apart level i j far) none (λ before next.
-        elim far.far [
-          | inl above ↦
-              let away : AreFarApart level i t =
-              record { far = inl (omega (arith, above, sorted.rises j t (omega arith) alive)) } in
-              raised-no_entry (entries i j) (entries i t) (part_to entries t j) (caps i) none
-              (zero_far.zeros i t row alive away)
-          | inr below ↦
-              let away : AreFarApart level t j =
-              record { far = inr (omega (arith, below, sorted.rises i t (omega arith) alive)) } in
-              raised-no_part (entries i j) (entries i t) (part_to entries t j) (caps i) none
-              (part_to-nothing entries t j (zero_far.zeros t j alive column away))
-        ]);
+      elim far.far [
+        | inl above ↦
+            let away : AreFarApart level i t =
+            record { far = inl (omega (arith, above, sorted.rises j t (omega arith) alive)) } in
+            raised-no_entry (entries i j) (entries i t) (part_to entries t j) (caps i) none
+            (zero_far.zeros i t row alive away)
+        | inr below ↦
+            let away : AreFarApart level t j =
+            record { far = inr (omega (arith, below, sorted.rises i t (omega arith) alive)) } in
+            raised-no_part (entries i j) (entries i t) (part_to entries t j) (caps i) none
+            (part_to-nothing entries t j (zero_far.zeros t j alive column away))
+      ]);
 }
 
 pub zeros_stay : ZerosStay

@@ -1,4 +1,5 @@
 -- lemmas, each file on one subject
+pub mod Sameness
 pub mod Steps
 pub mod Soundness
 pub mod FarZeros

@@ -12,9 +12,10 @@ use Rattle.hyper_model.specs.Tables.{RateTable, SolvesTable, Descends, IsTableSo
 use Rattle.hyper_model.proofs.Sums.{place_le_sum, sum-same, sum-scaled}
 use Rattle.hyper_model.proofs.Tables.{restricted, without_last}
 use Rattle.rate_matrix.specs.Elimination.{AreOutflows, Entries, HoldsAll, HoldsAt, IsExact, IsLive, IsWithin, eliminated, left_after, outflow_of, total_below}
-use Rattle.state_reduction.specs.Laws.{Begins, HoldsEverySolution}
+use Rattle.state_reduction.specs.Laws.{Begins, BeginsSound, HoldsEverySolution, IsSound}
 use Rattle.state_reduction.proofs.Steps.{eliminated-from, eliminated-to}
-use Rattle.state_reduction.proofs.Soundness.{IsSound, left_after-sound}
+use Rattle.state_reduction.proofs.Sameness.{HoldsAll-same}
+use Rattle.state_reduction.proofs.Soundness.{left_after-sound}
 use Rattle.state_reduction.proofs.Enclosing.{LiesIn, eliminated-lies, holds_last, leaves_some}
 
 -- while the first t states are left: a table of them that the masses solve, and the balance of those that have gone
@@ -30,13 +31,13 @@ eliminated-holds : (entries : Entries) (caps : ℕ → ℕ) (y : ℕ → ℕ) (t
     → HoldsAt (eliminated entries caps t) y m
 eliminated-holds entries caps y t m gone holds =
     let low = sum-same m (λ k. (eliminated entries caps t m k).lo) (λ k. (entries m k).lo)
-      (λ k l. ap (λ (e : Ends). e.lo) (eliminated-from entries caps t m k gone)) in
+    (λ k l. ap (λ (e : Ends). e.lo) (eliminated-from entries caps t m k gone)) in
     let high = sum-same m (λ k. (eliminated entries caps t m k).hi) (λ k. (entries m k).hi)
-      (λ k l. ap (λ (e : Ends). e.hi) (eliminated-from entries caps t m k gone)) in
+    (λ k l. ap (λ (e : Ends). e.hi) (eliminated-from entries caps t m k gone)) in
     let flow_low = sum-same m (λ i. y i * (eliminated entries caps t i m).lo) (λ i. y i * (entries i m).lo)
-      (λ i l. ap (λ (e : Ends). y i * e.lo) (eliminated-to entries caps t i m gone)) in
+    (λ i l. ap (λ (e : Ends). y i * e.lo) (eliminated-to entries caps t i m gone)) in
     let flow_high = sum-same m (λ i. y i * (eliminated entries caps t i m).hi) (λ i. y i * (entries i m).hi)
-      (λ i l. ap (λ (e : Ends). y i * e.hi) (eliminated-to entries caps t i m gone)) in
+    (λ i l. ap (λ (e : Ends). y i * e.hi) (eliminated-to entries caps t i m gone)) in
     record {
       least = omega (arith, holds.least, ap (λ a. y m * a) low, flow_high);
       most = omega (arith, holds.most, ap (λ a. y m * a) high, flow_low);
@@ -95,10 +96,14 @@ scaled_solves size scale rates y solves = record {
   positive = solves.positive;
   balanced = λ j inside.
       let flow = sum-same size (λ i. y i * (scale * between_states rates i j))
-        (λ i. scale * (y i * between_states rates i j)) (λ i l. omega arith) in
-      omega (arith, ap (λ a. scale * a) (solves.balanced j inside), flow,
+      (λ i. scale * (y i * between_states rates i j)) (λ i l. omega arith) in
+      omega (
+        arith,
+        ap (λ a. scale * a) (solves.balanced j inside),
+        flow,
         ap (λ a. y j * a) (sum-scaled size scale (between_states rates j)),
-        sum-scaled size scale (λ i. y i * between_states rates i j));
+        sum-scaled size scale (λ i. y i * between_states rates i j),
+      );
 }
 
 exact_at : (size scale : ℕ) (rates : RateTable) (entries : Entries) → IsExact size scale rates entries
@@ -114,14 +119,13 @@ begins_lies size scale rates caps entries begins = record {
   inside = λ i j row column apart.
       let one : scale * between_states rates i j * 1 ≡ scale * between_states rates i j = omega arith in
       rw one at (encloses_exact (scale * between_states rates i j) (entries i j)
-        (exact_at size scale rates entries begins.exact i j row column apart) 1);
+      (exact_at size scale rates entries begins.exact i j row column apart) 1);
   rows = λ i row.
       omega (arith, begins.outflows.each i row, sum-scaled size scale (between_states rates i));
 }
 
 -- and they are in order, under the caps, and lead to earlier states
-pub begins_sound : (size scale : ℕ) (rates : RateTable) (caps : ℕ → ℕ) (entries : Entries)
-    → Begins size scale rates caps entries → IsSound size scale caps entries
+pub begins_sound : BeginsSound
 begins_sound size scale rates caps entries begins = record {
   within = record {
     ordered = λ i j row column apart. rw (begins.exact.exact i j row column apart) (omega arith);
@@ -164,10 +168,11 @@ some_state (suc n) x positive = omega arith
 
 -- the whole run
 pub holds_every_solution : HoldsEverySolution
-holds_every_solution size scale rates caps entries ys begins solution =
+holds_every_solution size scale rates caps entries left ys begins same solution =
     let some : 0 < size = some_state size (mass_in ys) solution.solves.positive in
     let sound = weaker_sound size scale caps entries begins.scaled (begins_sound size scale rates caps entries begins) in
-    let left = left_after-remains size caps (mass_in ys) entries sound
-      (begins_remains size scale rates caps entries (mass_in ys) begins solution.solves)
-      (size - 1) 1 (omega arith) (omega arith) in
-    record { each = λ m later inside. left.held m later inside }
+    let remains = left_after-remains size caps (mass_in ys) entries sound
+    (begins_remains size scale rates caps entries (mass_in ys) begins solution.solves)
+    (size - 1) 1 (omega arith) (omega arith) in
+    HoldsAll-same size (left_after entries caps size (size - 1)) left (mass_in ys) same
+    (record { each = λ m later inside. remains.held m later inside })

@@ -1,15 +1,12 @@
 -- After any number of eliminations the ends are in order and under the caps, and what leads to earlier states stays.
-use Rattle.std.proofs.Common.{◌≡◌, ◌≢◌, ℕ, zero, suc, ◌-◌, ◌<◌, ◌≤◌, arith}
+use Rattle.std.proofs.Common.{◌≡◌, ◌≢◌, ℕ, zero, suc, ◌-◌, ◌<◌, ◌≤◌, ap, arith}
+use Rattle.fixed_interval.specs.Ends.{Ends}
 use Rattle.hyper_model.specs.Sums.{sum_below}
 use Rattle.hyper_model.proofs.Sums.{place_le_sum}
 use Rattle.rate_matrix.specs.Elimination.{Entries, IsLive, IsWithin, eliminated, left_after}
-use Rattle.state_reduction.specs.Laws.{IsRaisedFrom, StaysSound}
+use Rattle.state_reduction.specs.Laws.{IsRaisedFrom, IsSound, StaysSound}
+use Rattle.state_reduction.proofs.Sameness.{IsSound-same}
 use Rattle.state_reduction.proofs.Steps.{eliminated-within, eliminated-live, eliminated-grows}
-
--- the ends in order and under the caps, and enough of them to earlier states
-pub record IsSound (size least : ℕ) (caps : ℕ → ℕ) (entries : Entries) : Type 0 where
-  pub within : IsWithin size caps entries
-  pub live : IsLive size least entries
 
 pub eliminated-sound : (size least : ℕ) (caps : ℕ → ℕ) (entries : Entries) (t : ℕ) → t < size
     → IsSound size least caps entries → IsSound size least caps (eliminated entries caps t)
@@ -41,12 +38,20 @@ left_after-grows size least caps entries (suc k) some sound =
     let here = left_after-sound size least caps entries k (omega arith) sound in
     record {
       raises = λ i j row column apart.
-          omega (arith, before.raises i j row column apart,
-            eliminated-grows size caps (left_after entries caps size k) (size - suc k) here.within i j row column apart);
+          omega (
+            arith,
+            before.raises i j row column apart,
+            eliminated-grows size caps (left_after entries caps size k) (size - suc k) here.within i j row column apart,
+          );
     }
 
 pub stays_sound : StaysSound
-stays_sound size least caps entries within live k some =
-    let sound : IsSound size least caps entries = record { within = within; live = live } in
-    let left = left_after-sound size least caps entries k some sound in
-    (left.within, left.live, left_after-grows size least caps entries k some sound)
+stays_sound size least caps entries left k some sound same =
+    let grown = left_after-grows size least caps entries k some sound in (
+      IsSound-same size least caps (left_after entries caps size k) left same
+          (left_after-sound size least caps entries k some sound),
+      record {
+        raises = λ i j row column apart.
+            omega (arith, grown.raises i j row column apart, ap (λ (e : Ends). e.lo) (same.same i j row column apart));
+      },
+    )

@@ -68,8 +68,12 @@ at_entry P entries caps t i j apart stays changes = elim (cases_lt i t) [
 pub rest-ordered : (n : ℕ) (row : ℕ → Ends) (j : ℕ) → j < n → ((k : ℕ) → k < n → (row k).lo ≤ (row k).hi)
     → (without_ends (total_below row n) (row j)).lo ≤ (without_ends (total_below row n) (row j)).hi
 rest-ordered n row j inside ordered =
-    omega (arith, rest_le n (λ k. (row k).lo) (λ k. (row k).hi) j inside ordered,
-      place_le_sum n (λ k. (row k).lo) j inside, place_le_sum n (λ k. (row k).hi) j inside)
+    omega (
+      arith,
+      rest_le n (λ k. (row k).lo) (λ k. (row k).hi) j inside ordered,
+      place_le_sum n (λ k. (row k).lo) j inside,
+      place_le_sum n (λ k. (row k).hi) j inside,
+    )
 
 pub part_to-ordered : (entries : Entries) (t j : ℕ) → j < t → ((k : ℕ) → k < t → (entries t k).lo ≤ (entries t k).hi)
     → (part_to entries t j).lo ≤ (part_to entries t j).hi
@@ -95,12 +99,12 @@ pub eliminated-within : (size : ℕ) (caps : ℕ → ℕ) (entries : Entries) (t
 eliminated-within size caps entries t alive within = record {
   ordered = λ i j row column apart.
       at_entry (λ e. e.lo ≤ e.hi) entries caps t i j apart (within.ordered i j row column apart) (λ before next.
-        raised-ordered (entries i j) (entries i t) (part_to entries t j) (caps i) (within.ordered i j row column apart)
-        (within.ordered i t row alive (omega arith))
-        (part_to-ordered entries t j next (λ k l. within.ordered t k alive (omega arith) (omega arith))));
+      raised-ordered (entries i j) (entries i t) (part_to entries t j) (caps i) (within.ordered i j row column apart)
+      (within.ordered i t row alive (omega arith))
+      (part_to-ordered entries t j next (λ k l. within.ordered t k alive (omega arith) (omega arith))));
   capped = λ i j row column apart.
       at_entry (λ e. e.hi ≤ caps i) entries caps t i j apart (within.capped i j row column apart) (λ before next.
-        raised-capped (entries i j) (entries i t) (part_to entries t j) (caps i));
+      raised-capped (entries i j) (entries i t) (part_to entries t j) (caps i));
 }
 
 -- no low end falls
@@ -108,15 +112,18 @@ pub eliminated-grows : (size : ℕ) (caps : ℕ → ℕ) (entries : Entries) (t 
     → (i j : ℕ) → i < size → j < size → i ≢ j → (entries i j).lo ≤ (eliminated entries caps t i j).lo
 eliminated-grows size caps entries t within i j row column apart =
     at_entry (λ e. (entries i j).lo ≤ e.lo) entries caps t i j apart (omega arith) (λ before next.
-      raised-grows (entries i j) (entries i t) (part_to entries t j) (caps i)
-      (omega (arith, within.ordered i j row column apart, within.capped i j row column apart)))
+    raised-grows (entries i j) (entries i t) (part_to entries t j) (caps i)
+    (omega (arith, within.ordered i j row column apart, within.capped i j row column apart)))
 
 -- so that what leads to earlier states stays
 pub eliminated-live : (size least : ℕ) (caps : ℕ → ℕ) (entries : Entries) (t : ℕ) → IsWithin size caps entries
     → IsLive size least entries → IsLive size least (eliminated entries caps t)
 eliminated-live size least caps entries t within live = record {
   leaves = λ m some inside.
-      omega (arith, live.leaves m some inside,
+      omega (
+        arith,
+        live.leaves m some inside,
         sum-le m (λ k. (entries m k).lo) (λ k. (eliminated entries caps t m k).lo)
-        (λ k l. eliminated-grows size caps entries t within m k inside (omega arith) (omega arith)));
+            (λ k l. eliminated-grows size caps entries t within m k inside (omega arith) (omega arith)),
+      );
 }
