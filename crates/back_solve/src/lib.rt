@@ -1,13 +1,31 @@
-// A library with one function.
+//! The weights of a chain's states, from the entries that an elimination leaves, and their laws.
 #![tactic(auto)]
 
-ghost use Rattle.std.specs.Prelude.{◌≡◌};
-ghost use Rattle.back_solve.specs.Echo.{echo_of};
+ghost use Rattle.back_solve.specs.Laws.{AreWeightsDetermined, DependOnEntries, NextWeightFits, TailEncloses, TailFits, WeightsEnclose, WeightsInRange};
 
-// The `ensures` clause is the contract: what `echo` returns is `echo_of` of its argument, a definition
-// in `specs/Echo.antt`, which a caller's clause can cite too.
-pub fn echo(x: usize) -> usize
-    ensures { result ≡ echo_of x }
+/// The weights enclose, up to one common factor, all masses that the entries hold.
+///
+/// While they are made, each new weight has its ends in order and is below `2^100` before its shift, where the
+/// matrix has at most 4,096 states, entries up to `2^62`, and each state but the first has entries to earlier
+/// states that sum to at least `2^26`.
+pub fn law_weights()
+    ensures encloses { WeightsEnclose }
+    ensures in_range { WeightsInRange }
+    ensures next { NextWeightFits }
 {
-    x
+}
+
+/// A matrix has one list of weights, and it depends on the entries between different states alone.
+pub fn law_weights_determined()
+    ensures one { AreWeightsDetermined }
+    ensures entries { DependOnEntries }
+{
+}
+
+/// Weights that enclose the masses of the words enclose, with the tail's weight, also the mass of all states in
+/// which a call waits.
+pub fn law_tail()
+    ensures encloses { TailEncloses }
+    ensures next { TailFits }
+{
 }

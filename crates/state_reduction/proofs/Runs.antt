@@ -12,7 +12,7 @@ use Rattle.hyper_model.specs.Tables.{RateTable, SolvesTable, Descends, IsTableSo
 use Rattle.hyper_model.proofs.Sums.{place_le_sum, sum-same, sum-scaled}
 use Rattle.hyper_model.proofs.Tables.{restricted, without_last}
 use Rattle.rate_matrix.specs.Elimination.{AreOutflows, Entries, HoldsAll, HoldsAt, IsExact, IsLive, IsWithin, eliminated, left_after, outflow_of, total_below}
-use Rattle.state_reduction.specs.Laws.{Begins, BeginsSound, HoldsEverySolution, IsSound}
+use Rattle.state_reduction.specs.Laws.{Begins, BeginsSound, HoldsEverySolution, AreSoundEntries}
 use Rattle.state_reduction.proofs.Steps.{eliminated-from, eliminated-to}
 use Rattle.state_reduction.proofs.Sameness.{HoldsAll-same}
 use Rattle.state_reduction.proofs.Soundness.{left_after-sound}
@@ -63,7 +63,7 @@ eliminated-remains size t caps y entries live left = record {
 }
 
 -- all eliminations so far
-left_after-remains : (size : ℕ) (caps : ℕ → ℕ) (y : ℕ → ℕ) (entries : Entries) → IsSound size 1 caps entries
+left_after-remains : (size : ℕ) (caps : ℕ → ℕ) (y : ℕ → ℕ) (entries : Entries) → AreSoundEntries size 1 caps entries
     → Remains size size caps y entries → (k t : ℕ) → k + t ≡ size → 0 < t
     → Remains size t caps y (left_after entries caps size k)
 unfolding left_after
@@ -143,8 +143,8 @@ begins_sound size scale rates caps entries begins = record {
   };
 }
 
-weaker_sound : (size least : ℕ) (caps : ℕ → ℕ) (entries : Entries) → 1 ≤ least → IsSound size least caps entries
-    → IsSound size 1 caps entries
+weaker_sound : (size least : ℕ) (caps : ℕ → ℕ) (entries : Entries) → 1 ≤ least → AreSoundEntries size least caps entries
+    → AreSoundEntries size 1 caps entries
 weaker_sound size least caps entries some sound = record {
   within = sound.within;
   live = record { leaves = λ m later inside. omega (arith, sound.live.leaves m later inside) };

@@ -5,7 +5,7 @@ use Rattle.fixed_interval.specs.Ends.{Ends, between, share_ends, times_part_ends
 use Rattle.hyper_model.specs.Sums.{sum_below}
 use Rattle.hyper_model.proofs.Sums.{sum-same}
 use Rattle.rate_matrix.specs.Elimination.{Entries, HoldsAll, HoldsAt, IsLive, IsWithin, SameEntries, eliminated, left_after, part_to, raised, total_below, without_ends}
-use Rattle.state_reduction.specs.Laws.{IsDetermined, IsSound}
+use Rattle.state_reduction.specs.Laws.{IsDetermined, AreSoundEntries}
 use Rattle.state_reduction.proofs.Steps.{eliminated-before, eliminated-from, eliminated-to}
 
 between-same : (a c b d : ℕ) → a ≡ c → b ≡ d → between a b ≡ between c d
@@ -82,9 +82,9 @@ HoldsAll-same size a b y same holds = record {
   each = λ m later inside. HoldsAt-same size a b y same m inside (holds.each m later inside);
 }
 
-pub IsSound-same : (size least : ℕ) (caps : ℕ → ℕ) (a b : Entries) → SameEntries size a b → IsSound size least caps a
-    → IsSound size least caps b
-IsSound-same size least caps a b same sound = record {
+pub AreSoundEntries-same : (size least : ℕ) (caps : ℕ → ℕ) (a b : Entries) → SameEntries size a b → AreSoundEntries size least caps a
+    → AreSoundEntries size least caps b
+AreSoundEntries-same size least caps a b same sound = record {
   within = record {
     ordered = λ i j row column apart.
         rw (same.same i j row column apart) at (sound.within.ordered i j row column apart);

@@ -4,19 +4,19 @@ use Rattle.fixed_interval.specs.Ends.{Ends}
 use Rattle.hyper_model.specs.Sums.{sum_below}
 use Rattle.hyper_model.proofs.Sums.{place_le_sum}
 use Rattle.rate_matrix.specs.Elimination.{Entries, IsLive, IsWithin, eliminated, left_after}
-use Rattle.state_reduction.specs.Laws.{IsRaisedFrom, IsSound, StaysSound}
-use Rattle.state_reduction.proofs.Sameness.{IsSound-same}
+use Rattle.state_reduction.specs.Laws.{IsRaisedFrom, AreSoundEntries, StaysSound}
+use Rattle.state_reduction.proofs.Sameness.{AreSoundEntries-same}
 use Rattle.state_reduction.proofs.Steps.{eliminated-within, eliminated-live, eliminated-grows}
 
 pub eliminated-sound : (size least : ℕ) (caps : ℕ → ℕ) (entries : Entries) (t : ℕ) → t < size
-    → IsSound size least caps entries → IsSound size least caps (eliminated entries caps t)
+    → AreSoundEntries size least caps entries → AreSoundEntries size least caps (eliminated entries caps t)
 eliminated-sound size least caps entries t alive sound = record {
   within = eliminated-within size caps entries t alive sound.within;
   live = eliminated-live size least caps entries t sound.within sound.live;
 }
 
 pub left_after-sound : (size least : ℕ) (caps : ℕ → ℕ) (entries : Entries) (k : ℕ) → k < size
-    → IsSound size least caps entries → IsSound size least caps (left_after entries caps size k)
+    → AreSoundEntries size least caps entries → AreSoundEntries size least caps (left_after entries caps size k)
 unfolding left_after
 left_after-sound size least caps entries zero some sound = record {
   within = record { ordered = sound.within.ordered; capped = sound.within.capped };
@@ -28,7 +28,7 @@ left_after-sound size least caps entries (suc k) some sound =
 
 -- no low end is lower than it was at the beginning
 pub left_after-grows : (size least : ℕ) (caps : ℕ → ℕ) (entries : Entries) (k : ℕ) → k < size
-    → IsSound size least caps entries → IsRaisedFrom size entries (left_after entries caps size k)
+    → AreSoundEntries size least caps entries → IsRaisedFrom size entries (left_after entries caps size k)
 unfolding left_after
 left_after-grows size least caps entries zero some sound = record {
   raises = λ i j row column apart. omega arith;
@@ -48,7 +48,7 @@ left_after-grows size least caps entries (suc k) some sound =
 pub stays_sound : StaysSound
 stays_sound size least caps entries left k some sound same =
     let grown = left_after-grows size least caps entries k some sound in (
-      IsSound-same size least caps (left_after entries caps size k) left same
+      AreSoundEntries-same size least caps (left_after entries caps size k) left same
           (left_after-sound size least caps entries k some sound),
       record {
         raises = λ i j row column apart.

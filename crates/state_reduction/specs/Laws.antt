@@ -24,7 +24,7 @@ pub record IsRaisedFrom (size : ℕ) (old new : Entries) : Type 0 where
 
 -- the ends are in order and under the caps, and each state but the first has entries to earlier states that sum
 -- to at least this much
-pub record IsSound (size least : ℕ) (caps : ℕ → ℕ) (entries : Entries) : Type 0 where
+pub record AreSoundEntries (size least : ℕ) (caps : ℕ → ℕ) (entries : Entries) : Type 0 where
   pub within : IsWithin size caps entries
   pub live : IsLive size least entries
 
@@ -32,14 +32,14 @@ pub record IsSound (size least : ℕ) (caps : ℕ → ℕ) (entries : Entries) :
 abbrev pub BeginsSound : Type 0
 BeginsSound =
     (size scale : ℕ) (rates : RateTable) (caps : ℕ → ℕ) (entries : Entries)
-    → Begins size scale rates caps entries → IsSound size scale caps entries
+    → Begins size scale rates caps entries → AreSoundEntries size scale caps entries
 
 -- and after any number of eliminations, none of which lowers a low end
 abbrev pub StaysSound : Type 0
 StaysSound =
-    (size least : ℕ) (caps : ℕ → ℕ) (entries left : Entries) (k : ℕ) → k < size → IsSound size least caps entries
+    (size least : ℕ) (caps : ℕ → ℕ) (entries left : Entries) (k : ℕ) → k < size → AreSoundEntries size least caps entries
     → SameEntries size (left_after entries caps size k) left
-    → IsSound size least caps left × IsRaisedFrom size entries left
+    → AreSoundEntries size least caps left × IsRaisedFrom size entries left
 
 -- what is left between different states follows from the entries between different states, and from the caps
 abbrev pub IsDetermined : Type 0

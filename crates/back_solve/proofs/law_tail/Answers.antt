@@ -1,0 +1,6 @@
+use Rattle.back_solve.proofs.Tail.{tail_encloses, tail_fits}
+use Rattle.back_solve.proofs.NextWeight.{next_weight_fits, weight_of-encloses}
+use Rattle.back_solve.proofs.law_tail.Goals as goal
+
+pub returns : goal.returns
+returns c = record { encloses = tail_encloses; next = tail_fits }
