@@ -1,5 +1,5 @@
 -- One more weight: it is in range, and stands in ratio to those before it as the masses that the entries hold.
-use Rattle.std.proofs.Common.{◌≡◌, ℕ, zero, suc, ◌+◌, ◌-◌, ◌*◌, ◌/◌, ◌^◌, ◌<◌, ◌≤◌, List, [], ◌∷◌, ◌++◌, All, length, slice_index, refl, sym, ap, ◌∙◌, arith}
+use Rattle.std.proofs.Common.{◌≡◌, ℕ, ◌*◌, ◌/◌, ◌^◌, ◌<◌, ◌≤◌, List, [], ◌∷◌, ◌++◌, All, length, slice_index, arith}
 use Rattle.std.specs.Int.{div_ceil}
 use Rattle.std.proofs.Math.Nat.{div-mul-le_self, le_of_mul-le-mul_right, mul-le-mul_left, mul-le-mul_right, mul-pos}
 use Rattle.std.proofs.lemmas.Nat.{mul-le}
@@ -24,16 +24,24 @@ weight_at items i inside all = All-get_or IsWeight items i (between 0 0) inside 
 cross_high : (m l a : ℕ) (x e : ℕ → Ends) (y : ℕ → ℕ) → ((i : ℕ) → i < m → l * y i ≤ (x i).hi * a)
     → l * sum_below m (λ i. y i * (e i).hi) ≤ a * sum_below m (λ i. (x i).hi * (e i).hi)
 cross_high m l a x e y cross =
-    omega (arith, sum-scaled m l (λ i. y i * (e i).hi), sum-scaled m a (λ i. (x i).hi * (e i).hi),
+    omega (
+      arith,
+      sum-scaled m l (λ i. y i * (e i).hi),
+      sum-scaled m a (λ i. (x i).hi * (e i).hi),
       sum-le m (λ i. l * (y i * (e i).hi)) (λ i. a * ((x i).hi * (e i).hi))
-        (λ i inside. omega (arith, mul-le-mul_right (e i).hi (cross i inside))))
+          (λ i inside. omega (arith, mul-le-mul_right (e i).hi (cross i inside))),
+    )
 
 cross_low : (m h a : ℕ) (x e : ℕ → Ends) (y : ℕ → ℕ) → ((i : ℕ) → i < m → (x i).lo * a ≤ h * y i)
     → a * sum_below m (λ i. (x i).lo * (e i).lo) ≤ h * sum_below m (λ i. y i * (e i).lo)
 cross_low m h a x e y cross =
-    omega (arith, sum-scaled m a (λ i. (x i).lo * (e i).lo), sum-scaled m h (λ i. y i * (e i).lo),
+    omega (
+      arith,
+      sum-scaled m a (λ i. (x i).lo * (e i).lo),
+      sum-scaled m h (λ i. y i * (e i).lo),
       sum-le m (λ i. a * ((x i).lo * (e i).lo)) (λ i. h * (y i * (e i).lo))
-        (λ i inside. omega (arith, mul-le-mul_right (e i).lo (cross i inside))))
+          (λ i inside. omega (arith, mul-le-mul_right (e i).lo (cross i inside))),
+    )
 
 -- a flow over what leaves, rounded up: l * y * out ≤ l * held ≤ a * flow
 over_rounded_up : (flow out l a y held : ℕ) → 0 < out → y * out ≤ held → l * held ≤ a * flow
@@ -88,8 +96,8 @@ pub inflow-ordered : (m : ℕ) (entries : Entries) (items : List Ends) → IsRea
 inflow-ordered m entries items ready =
     sum-le m (λ i. (ends_at items i).lo * (entries i m).lo) (λ i. (ends_at items i).hi * (entries i m).hi)
     (λ i inside.
-      mul-le (ends_at items i).lo (entries i m).lo (ends_at items i).hi (entries i m).hi
-      ((weight_at items i (omega (arith, ready.count)) ready.weights).0) (ready.column i inside))
+    mul-le (ends_at items i).lo (entries i m).lo (ends_at items i).hi (entries i m).hi
+    ((weight_at items i (omega (arith, ready.count)) ready.weights).0) (ready.column i inside))
 
 pub weight_of-ordered : (m : ℕ) (entries : Entries) (items : List Ends) → IsReady m entries items
     → (weight_of entries items m).lo ≤ (weight_of entries items m).hi
@@ -102,12 +110,15 @@ weight_of-ordered m entries items ready =
 pub inflow-in_range : (m : ℕ) (entries : Entries) (items : List Ends) → length items ≡ m → All IsWeight items
     → ((i : ℕ) → i < m → (entries i m).hi ≤ 2 ^ 62) → (inflow_ends entries items m).hi ≤ m * 2 ^ 114
 inflow-in_range m entries items count weights column =
-    omega (arith, sum-constant m (2 ^ 114),
+    omega (
+      arith,
+      sum-constant m (2 ^ 114),
       sum-le m (λ i. (ends_at items i).hi * (entries i m).hi) (λ i. 2 ^ 114)
-        (λ i inside.
+          (λ i inside.
           let product = mul-le (ends_at items i).hi (entries i m).hi (2 ^ 52) (2 ^ 62)
-            ((weight_at items i (omega (arith, count)) weights).1) (column i inside) in
-          omega (arith, product)))
+          ((weight_at items i (omega (arith, count)) weights).1) (column i inside) in
+          omega (arith, product)),
+    )
 
 below_limit : (m flow out : ℕ) → m ≤ 4095 → 2 ^ 26 ≤ out → flow ≤ m * 2 ^ 114 → div_ceil flow out < 2 ^ 100
 below_limit m flow out few some flows =
@@ -130,10 +141,10 @@ is_ready size least m caps entries items some sound later inside count weights =
 pub next_weight_fits : NextWeightFits
 next_weight_fits size least m caps entries items few some under sound later inside count weights = (
   weight_of-ordered m entries items
-    (is_ready size least m caps entries items (omega (arith, some)) sound later inside count weights),
+      (is_ready size least m caps entries items (omega (arith, some)) sound later inside count weights),
   below_limit m (inflow_ends entries items m).hi (total_below (entries m) m).lo (omega arith)
-    (omega (arith, some, sound.live.leaves m later inside))
-    (inflow-in_range m entries items count weights
+      (omega (arith, some, sound.live.leaves m later inside))
+      (inflow-in_range m entries items count weights
       (λ i l. omega (arith, sound.within.capped i m (omega arith) inside (omega arith), under i (omega arith)))),
 )
 
@@ -146,19 +157,19 @@ pub weight_of-encloses : (m : ℕ) (entries : Entries) (items : List Ends) (numb
 weight_of-encloses m entries items numbers y ready e least most =
     encloses_push items numbers (weight_of entries items m) y (weight_of-ordered m entries items ready) e
     (λ i inside.
-      over_rounded_up (inflow_ends entries items m).hi (total_below (entries m) m).lo
-        (ends_at items i).lo (slice_index numbers i) y (sum_below m (λ k. slice_index numbers k * (entries k m).hi))
-        ready.out least
-        (cross_high m (ends_at items i).lo (slice_index numbers i) (ends_at items) (λ k. entries k m)
-          (slice_index numbers) (λ k l. e.in_ratio i k inside (omega (arith, ready.count)))))
+    over_rounded_up (inflow_ends entries items m).hi (total_below (entries m) m).lo
+    (ends_at items i).lo (slice_index numbers i) y (sum_below m (λ k. slice_index numbers k * (entries k m).hi))
+    ready.out least
+    (cross_high m (ends_at items i).lo (slice_index numbers i) (ends_at items) (λ k. entries k m)
+    (slice_index numbers) (λ k l. e.in_ratio i k inside (omega (arith, ready.count)))))
     (λ i inside.
-      over_rounded_down (inflow_ends entries items m).lo (total_below (entries m) m).hi
-        (ends_at items i).hi (slice_index numbers i) y (sum_below m (λ k. slice_index numbers k * (entries k m).lo))
-        (omega (arith, ready.out, out-ordered m entries items ready)) most
-        (cross_low m (ends_at items i).hi (slice_index numbers i) (ends_at items) (λ k. entries k m)
-          (slice_index numbers) (λ k l. e.in_ratio k i (omega (arith, ready.count)) inside)))
+    over_rounded_down (inflow_ends entries items m).lo (total_below (entries m) m).hi
+    (ends_at items i).hi (slice_index numbers i) y (sum_below m (λ k. slice_index numbers k * (entries k m).lo))
+    (omega (arith, ready.out, out-ordered m entries items ready)) most
+    (cross_low m (ends_at items i).hi (slice_index numbers i) (ends_at items) (λ k. entries k m)
+    (slice_index numbers) (λ k l. e.in_ratio k i (omega (arith, ready.count)) inside)))
     (λ some.
-      div_ceil-positive (inflow_ends entries items m).hi (total_below (entries m) m).lo ready.out
-        (some_flow m (ends_at items) (λ k. entries k m) (slice_index numbers)
-          (λ k l. e.positive k (omega (arith, ready.count)))
-          (omega (arith, least, mul-pos some ready.out))))
+    div_ceil-positive (inflow_ends entries items m).hi (total_below (entries m) m).lo ready.out
+    (some_flow m (ends_at items) (λ k. entries k m) (slice_index numbers)
+    (λ k l. e.positive k (omega (arith, ready.count)))
+    (omega (arith, least, mul-pos some ready.out))))

@@ -1,14 +1,12 @@
 -- The tail's weight: the mass of all states in which a call waits.
-use Rattle.std.proofs.Common.{◌≡◌, ℕ, zero, suc, ◌+◌, ◌-◌, ◌*◌, ◌/◌, ◌^◌, ◌<◌, ◌≤◌, List, [], ◌∷◌, ◌++◌, All, length, slice_index, refl, sym, ap, ◌∙◌, arith}
+use Rattle.std.proofs.Common.{◌≡◌, ℕ, ◌-◌, ◌*◌, ◌/◌, ◌^◌, ◌<◌, ◌≤◌, [], ◌∷◌, ◌++◌, length, slice_index, ap, ◌∙◌, arith}
 use Rattle.std.specs.Int.{div_ceil}
-use Rattle.std.proofs.Math.Nat.{le_of_mul-le-mul_right, mul-le-mul_left, mul-le-mul_right, mul-pos}
+use Rattle.std.proofs.Math.Nat.{mul-le-mul_left, mul-le-mul_right, mul-pos}
 use Rattle.std.proofs.lemmas.Nat.{mul-le}
-use Rattle.fixed_interval.specs.Ends.{Ends, between, ratio_ends}
-use Rattle.fixed_interval.specs.WeightList.{EnclosesAll, IsWeight, ends_at}
+use Rattle.fixed_interval.specs.Ends.{Ends, ratio_ends}
+use Rattle.fixed_interval.specs.WeightList.{ends_at}
 use Rattle.fixed_interval.proofs.Rounding.{ceil_above, div_ceil-le, div_ceil-positive, factor-positive, floor_below, rounded-ordered}
 use Rattle.fixed_interval.proofs.Shifts.{encloses_push, encloses_pushed}
-use Rattle.hyper_model.specs.Solutions.{mass_in}
-use Rattle.rate_matrix.specs.Weights.{GainsTail}
 use Rattle.back_solve.specs.Laws.{TailEncloses, TailFits}
 use Rattle.back_solve.proofs.NextWeight.{weight_at}
 
@@ -56,14 +54,14 @@ tail_encloses calls service z old new xs stable some weights gains is e =
     is ∙ ap (λ k. calls * slice_index xs k) last in
     encloses_pushed old new (ratio_ends (ends_at old (length old - 1)) calls (service - calls)) gains (xs ++ z ∷ [])
     (encloses_push old xs (ratio_ends (ends_at old (length old - 1)) calls (service - calls)) z
-      (ratio-ordered (ends_at old (length old - 1)) calls (service - calls) rest
-        ((weight_at old (length old - 1) full weights).0))
-      e
-      (λ i inside.
-        tail_high (ends_at old i).lo (ends_at old (length old - 1)).hi (slice_index xs i)
-          (slice_index xs (length old - 1)) z calls (service - calls) rest tail (e.in_ratio i (length old - 1) inside full))
-      (λ k inside.
-        tail_low (ends_at old (length old - 1)).lo (ends_at old k).hi (slice_index xs k)
-          (slice_index xs (length old - 1)) z calls (service - calls) rest tail (e.in_ratio (length old - 1) k full inside))
-      (tail_live (ends_at old (length old - 1)).hi (slice_index xs (length old - 1)) z calls (service - calls) rest tail
-        (e.positive (length old - 1) full)))
+    (ratio-ordered (ends_at old (length old - 1)) calls (service - calls) rest
+    ((weight_at old (length old - 1) full weights).0))
+    e
+    (λ i inside.
+    tail_high (ends_at old i).lo (ends_at old (length old - 1)).hi (slice_index xs i)
+    (slice_index xs (length old - 1)) z calls (service - calls) rest tail (e.in_ratio i (length old - 1) inside full))
+    (λ k inside.
+    tail_low (ends_at old (length old - 1)).lo (ends_at old k).hi (slice_index xs k)
+    (slice_index xs (length old - 1)) z calls (service - calls) rest tail (e.in_ratio (length old - 1) k full inside))
+    (tail_live (ends_at old (length old - 1)).hi (slice_index xs (length old - 1)) z calls (service - calls) rest tail
+    (e.positive (length old - 1) full)))

@@ -1,13 +1,12 @@
 -- The list of weights of the first states: how it is made, how long it is, what it encloses, and that there is one.
-use Rattle.std.proofs.Common.{◌≡◌, ℕ, zero, suc, ◌+◌, ◌-◌, ◌*◌, ◌/◌, ◌^◌, ◌<◌, ◌≤◌, List, [], ◌∷◌, ◌++◌, All, map, take, length, slice_index, length-append, refl, sym, ap, subst, ◌∙◌, arith}
+use Rattle.std.proofs.Common.{◌≡◌, ℕ, zero, suc, ◌+◌, ◌*◌, ◌/◌, ◌^◌, ◌<◌, ◌≤◌, List, [], ◌∷◌, ◌++◌, All, map, take, length, slice_index, length-append, refl, sym, ap, subst, ◌∙◌, arith}
 use Rattle.std.specs.Int.{div_ceil}
 use Rattle.std.proofs.lemmas.List.{get_or-take, length-map, length-take-le, take_all}
 use Rattle.std.proofs.Math.Seq.{take-suc}
 use Rattle.std.proofs.lemmas.List.Elements.{All-map, All-push, All-weaker}
 use Rattle.fixed_interval.specs.Ends.{Ends, between, exact_ends, shifted_ends}
-use Rattle.fixed_interval.specs.WeightList.{EnclosesAll, IsLeastShift, IsWeight, PushesShifted, ends_at}
+use Rattle.fixed_interval.specs.WeightList.{EnclosesAll, IsWeight, PushesShifted, ends_at}
 use Rattle.fixed_interval.proofs.Shifts.{IsWeight-shifted, encloses_one, encloses_pushed, shifted-ordered}
-use Rattle.hyper_model.specs.Sums.{sum_below}
 use Rattle.hyper_model.specs.Solutions.{mass_in}
 use Rattle.hyper_model.proofs.Sums.{sum-same}
 use Rattle.rate_matrix.specs.Elimination.{Entries, HoldsAll, SameEntries, total_below}
@@ -38,9 +37,9 @@ pushed-in_range : (old new : List Ends) (w : Ends) → All IsWeight old → w.lo
 pushed-in_range old new w weights ordered pushed =
     rw pushed.items
     (All-map IsWeight (shifted_ends pushed.power) (old ++ w ∷ [])
-      (All-push (λ e. IsWeight (shifted_ends pushed.power e)) old w
-        (All-weaker IsWeight (λ e. IsWeight (shifted_ends pushed.power e)) (IsWeight-shifted pushed.power) old weights)
-        (shifted-ordered pushed.power w.lo w.hi ordered, pushed.least.fits)))
+    (All-push (λ e. IsWeight (shifted_ends pushed.power e)) old w
+    (All-weaker IsWeight (λ e. IsWeight (shifted_ends pushed.power e)) (IsWeight-shifted pushed.power) old weights)
+    (shifted-ordered pushed.power w.lo w.hi ordered, pushed.least.fits)))
 
 pub weights_in_range : WeightsInRange
 unfolding AreWeightsOf
@@ -51,11 +50,10 @@ weights_in_range size least (suc zero) caps entries items some sound within are 
     (refl, All-push IsWeight [] (exact_ends (2 ^ 52)) (λ k d inside. absurd (omega arith)) (omega arith, omega arith))
 weights_in_range size least (suc (suc m)) caps entries items some sound within are =
     let rest = weights_in_range size least (suc m) caps entries are.0 some sound (omega arith) are.1 in
-    let ready = is_ready size least (suc m) caps entries are.0 some sound (omega arith) (omega arith) rest.0 rest.1 in
-    (
+    let ready = is_ready size least (suc m) caps entries are.0 some sound (omega arith) (omega arith) rest.0 rest.1 in (
       omega (arith, pushed-count are.0 items (weight_of entries are.0 (suc m)) are.2, rest.0),
       pushed-in_range are.0 items (weight_of entries are.0 (suc m)) rest.1
-        (weight_of-ordered (suc m) entries are.0 ready) are.2,
+          (weight_of-ordered (suc m) entries are.0 ready) are.2,
     )
 
 nothing_encloses : (ys : List ℕ) → length ys ≡ 0 → EnclosesAll [] ys
@@ -84,15 +82,15 @@ weights_so_far size least (suc (suc m)) caps entries items ys some sound within 
     let ready = is_ready size least (suc m) caps entries are.0 some sound (omega arith) (omega arith) rest.0 rest.1 in
     let held = holds.each (suc m) (omega arith) (omega arith) in
     let high = sum-same (suc m) (λ i. slice_index (take (suc m) ys) i * (entries i (suc m)).hi)
-      (λ i. slice_index ys i * (entries i (suc m)).hi)
-      (λ i l. ap (λ a. a * (entries i (suc m)).hi) (get_or-take (suc m) ys i 0 l)) in
+    (λ i. slice_index ys i * (entries i (suc m)).hi)
+    (λ i l. ap (λ a. a * (entries i (suc m)).hi) (get_or-take (suc m) ys i 0 l)) in
     let low = sum-same (suc m) (λ i. slice_index (take (suc m) ys) i * (entries i (suc m)).lo)
-      (λ i. slice_index ys i * (entries i (suc m)).lo)
-      (λ i l. ap (λ a. a * (entries i (suc m)).lo) (get_or-take (suc m) ys i 0 l)) in
+    (λ i. slice_index ys i * (entries i (suc m)).lo)
+    (λ i l. ap (λ a. a * (entries i (suc m)).lo) (get_or-take (suc m) ys i 0 l)) in
     rw (take-suc ys (suc m) 0 (omega (arith, count)))
     (encloses_pushed are.0 items (weight_of entries are.0 (suc m)) are.2 (take (suc m) ys ++ slice_index ys (suc m) ∷ [])
-      (weight_of-encloses (suc m) entries are.0 (take (suc m) ys) (slice_index ys (suc m)) ready e
-        (omega (arith, held.least, high)) (omega (arith, held.most, low))))
+    (weight_of-encloses (suc m) entries are.0 (take (suc m) ys) (slice_index ys (suc m)) ready e
+    (omega (arith, held.least, high)) (omega (arith, held.most, low))))
 
 pub weights_enclose : WeightsEnclose
 weights_enclose size least caps entries items ys some sound are count holds =
@@ -126,9 +124,9 @@ pub weight_of-same : (size : ℕ) (a b : Entries) → SameEntries size a b → (
 weight_of-same size a b same items m inside =
     let out = leaving-same size a b same m inside in
     let low = sum-same m (λ i. (ends_at items i).lo * (a i m).lo) (λ i. (ends_at items i).lo * (b i m).lo)
-      (λ i l. ap (λ (e : Ends). (ends_at items i).lo * e.lo) (same.same i m (omega arith) inside (omega arith))) in
+    (λ i l. ap (λ (e : Ends). (ends_at items i).lo * e.lo) (same.same i m (omega arith) inside (omega arith))) in
     let high = sum-same m (λ i. (ends_at items i).hi * (a i m).hi) (λ i. (ends_at items i).hi * (b i m).hi)
-      (λ i l. ap (λ (e : Ends). (ends_at items i).hi * e.hi) (same.same i m (omega arith) inside (omega arith))) in
+    (λ i l. ap (λ (e : Ends). (ends_at items i).hi * e.hi) (same.same i m (omega arith) inside (omega arith))) in
     between-same _ _ _ _
     (ap (λ f. f / (total_below (a m) m).hi) low ∙ ap (λ (e : Ends). (inflow_ends b items m).lo / e.hi) out)
     (ap (λ f. div_ceil f (total_below (a m) m).lo) high ∙ ap (λ (e : Ends). div_ceil (inflow_ends b items m).hi e.lo) out)

@@ -1,7 +1,7 @@
 -- What the weights of an eliminated chain keep.
-use Rattle.std.specs.Prelude.{◌≡◌, ℕ, ◌+◌, ◌-◌, ◌*◌, ◌^◌, ◌<◌, ◌≤◌, List, [], ◌∷◌, ◌++◌, length, All}
+use Rattle.std.specs.Prelude.{◌≡◌, ℕ, ◌-◌, ◌*◌, ◌^◌, ◌<◌, ◌≤◌, List, [], ◌∷◌, ◌++◌, length, All}
 use Rattle.fixed_interval.specs.Ends.{Ends, ratio_ends}
-use Rattle.fixed_interval.specs.WeightList.{EnclosesAll, IsWeight, ends_at}
+use Rattle.fixed_interval.specs.WeightList.{EnclosesAll, IsWeight}
 use Rattle.hyper_model.specs.Solutions.{mass_in}
 use Rattle.rate_matrix.specs.Elimination.{Entries, HoldsAll, SameEntries}
 use Rattle.rate_matrix.specs.Weights.{AreWeightsOf, GainsTail, weight_of}
@@ -55,4 +55,4 @@ abbrev pub TailFits : Type 0
 TailFits =
     (calls service : ℕ) (full : Ends) → calls < service → calls ≤ 2 ^ 47 → IsWeight full
     → ((ratio_ends full calls (service - calls)).lo ≤ (ratio_ends full calls (service - calls)).hi)
-        × ((ratio_ends full calls (service - calls)).hi < 2 ^ 100)
+    × ((ratio_ends full calls (service - calls)).hi < 2 ^ 100)

@@ -12,20 +12,17 @@ pub fn law_weights()
     ensures encloses { WeightsEnclose }
     ensures in_range { WeightsInRange }
     ensures next { NextWeightFits }
-{
-}
+{}
 
 /// A matrix has one list of weights, and it depends on the entries between different states alone.
 pub fn law_weights_determined()
     ensures one { AreWeightsDetermined }
     ensures entries { DependOnEntries }
-{
-}
+{}
 
 /// Weights that enclose the masses of the words enclose, with the tail's weight, also the mass of all states in
 /// which a call waits.
 pub fn law_tail()
     ensures encloses { TailEncloses }
     ensures next { TailFits }
-{
-}
+{}

@@ -1,9 +1,9 @@
 -- One elimination of a table of whole rates, and of the intervals that enclose it. The table loses its last state
 -- and the scale of all its rates grows by one factor, so that no fraction arises. A row's sum over the scale stays
 -- as it is, which is why no cap cuts a rate off.
-use Rattle.std.proofs.Common.{◌≡◌, ◌≢◌, ℕ, zero, suc, ◌+◌, ◌-◌, ◌*◌, ◌^◌, ◌<◌, ◌≤◌, refl, sym, ap, ◌∙◌, arith}
+use Rattle.std.proofs.Common.{◌≡◌, ◌≢◌, ℕ, suc, ◌+◌, ◌-◌, ◌*◌, ◌^◌, ◌<◌, ◌≤◌, refl, ap, arith}
 use Rattle.std.proofs.Math.Nat.{le_of_mul-le-mul_right, mul-le-mul_left, mul-le-mul_right, mul-pos}
-use Rattle.fixed_interval.specs.Ends.{Ends, Encloses, between, share_ends, times_part_ends}
+use Rattle.fixed_interval.specs.Ends.{Ends, Encloses, times_part_ends}
 use Rattle.fixed_interval.proofs.Rounding.{encloses_plus_capped, encloses_share, encloses_times, encloses_times_part}
 use Rattle.hyper_model.specs.Sums.{sum_below}
 use Rattle.hyper_model.specs.Tables.{RateTable, SolvesTable}

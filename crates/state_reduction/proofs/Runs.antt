@@ -1,17 +1,17 @@
 -- The whole run of an elimination: what is left of the intervals encloses what is left of a table, and each state
 -- that has gone is in balance with the states before it.
-use Rattle.std.proofs.Common.{◌≡◌, ◌≢◌, ℕ, zero, suc, ◌+◌, ◌-◌, ◌*◌, ◌<◌, ◌≤◌, List, cond, eqb, refl, sym, ap, subst, ◌∙◌, inl, inr, arith}
+use Rattle.std.proofs.Common.{◌≡◌, ◌≢◌, ℕ, zero, suc, ◌+◌, ◌-◌, ◌*◌, ◌<◌, ◌≤◌, cond, eqb, sym, ap, subst, ◌∙◌, inl, inr, arith}
 use Rattle.std.proofs.lemmas.Bool.{cases_lt}
 use Rattle.std.proofs.lemmas.Bool.Decides.{nat_tests}
 use Rattle.std.proofs.Math.Nat.{mul-le-mul_left}
-use Rattle.fixed_interval.specs.Ends.{Ends, Encloses, between, exact_ends}
+use Rattle.fixed_interval.specs.Ends.{Ends, exact_ends}
 use Rattle.fixed_interval.proofs.Rounding.{encloses_exact}
 use Rattle.hyper_model.specs.Sums.{sum_below}
 use Rattle.hyper_model.specs.Solutions.{mass_in}
-use Rattle.hyper_model.specs.Tables.{RateTable, SolvesTable, Descends, IsTableSolution, between_states}
+use Rattle.hyper_model.specs.Tables.{RateTable, SolvesTable, between_states}
 use Rattle.hyper_model.proofs.Sums.{place_le_sum, sum-same, sum-scaled}
 use Rattle.hyper_model.proofs.Tables.{restricted, without_last}
-use Rattle.rate_matrix.specs.Elimination.{AreOutflows, Entries, HoldsAll, HoldsAt, IsExact, IsLive, IsWithin, eliminated, left_after, outflow_of, total_below}
+use Rattle.rate_matrix.specs.Elimination.{Entries, HoldsAt, IsExact, eliminated, left_after, total_below}
 use Rattle.state_reduction.specs.Laws.{Begins, BeginsSound, HoldsEverySolution, AreSoundEntries}
 use Rattle.state_reduction.proofs.Steps.{eliminated-from, eliminated-to}
 use Rattle.state_reduction.proofs.Sameness.{HoldsAll-same}

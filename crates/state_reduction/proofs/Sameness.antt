@@ -1,10 +1,9 @@
 -- Entries that agree between different states have the same sums, parts and eliminations.
-use Rattle.std.proofs.Common.{◌≡◌, ◌≢◌, ℕ, zero, suc, ◌+◌, ◌-◌, ◌*◌, ◌^◌, ◌<◌, ◌≤◌, refl, sym, ap, ◌∙◌, inl, inr, arith}
+use Rattle.std.proofs.Common.{◌≡◌, ℕ, zero, suc, ◌-◌, ◌*◌, ◌^◌, ◌<◌, sym, ap, ◌∙◌, inl, inr, arith}
 use Rattle.std.proofs.lemmas.Bool.{cases_lt}
-use Rattle.fixed_interval.specs.Ends.{Ends, between, share_ends, times_part_ends}
-use Rattle.hyper_model.specs.Sums.{sum_below}
+use Rattle.fixed_interval.specs.Ends.{Ends, between, share_ends}
 use Rattle.hyper_model.proofs.Sums.{sum-same}
-use Rattle.rate_matrix.specs.Elimination.{Entries, HoldsAll, HoldsAt, IsLive, IsWithin, SameEntries, eliminated, left_after, part_to, raised, total_below, without_ends}
+use Rattle.rate_matrix.specs.Elimination.{Entries, HoldsAll, HoldsAt, SameEntries, eliminated, left_after, part_to, raised, total_below, without_ends}
 use Rattle.state_reduction.specs.Laws.{IsDetermined, AreSoundEntries}
 use Rattle.state_reduction.proofs.Steps.{eliminated-before, eliminated-from, eliminated-to}
 

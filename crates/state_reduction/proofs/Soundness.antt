@@ -1,9 +1,7 @@
 -- After any number of eliminations the ends are in order and under the caps, and what leads to earlier states stays.
-use Rattle.std.proofs.Common.{◌≡◌, ◌≢◌, ℕ, zero, suc, ◌-◌, ◌<◌, ◌≤◌, ap, arith}
+use Rattle.std.proofs.Common.{ℕ, zero, suc, ◌-◌, ◌<◌, ap, arith}
 use Rattle.fixed_interval.specs.Ends.{Ends}
-use Rattle.hyper_model.specs.Sums.{sum_below}
-use Rattle.hyper_model.proofs.Sums.{place_le_sum}
-use Rattle.rate_matrix.specs.Elimination.{Entries, IsLive, IsWithin, eliminated, left_after}
+use Rattle.rate_matrix.specs.Elimination.{Entries, eliminated, left_after}
 use Rattle.state_reduction.specs.Laws.{IsRaisedFrom, AreSoundEntries, StaysSound}
 use Rattle.state_reduction.proofs.Sameness.{AreSoundEntries-same}
 use Rattle.state_reduction.proofs.Steps.{eliminated-within, eliminated-live, eliminated-grows}

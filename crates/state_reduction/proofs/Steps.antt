@@ -1,11 +1,10 @@
 -- One elimination: which entries it changes, and what it keeps of their ends.
-use Rattle.std.proofs.Common.{◌≡◌, ◌≢◌, ℕ, zero, suc, ◌+◌, ◌-◌, ◌*◌, ◌^◌, ◌<◌, ◌≤◌, ◌⊎◌, ◌&&◌, Bool, true, false, cond, not, nat_lt, min, refl, sym, ap, ◌∙◌, inl, inr, arith}
+use Rattle.std.proofs.Common.{◌≡◌, ◌≢◌, ℕ, suc, ◌-◌, ◌^◌, ◌<◌, ◌≤◌, true, false, refl, ap, inl, inr, arith}
 use Rattle.std.specs.Prelude.{if◌then◌else◌}
 use Rattle.std.proofs.lemmas.Bool.{cases_lt}
 use Rattle.std.proofs.lemmas.Bool.Decides.{nat_tests}
-use Rattle.fixed_interval.specs.Ends.{Ends, between, exact_ends, plus_capped_ends, share_ends, times_part_ends}
+use Rattle.fixed_interval.specs.Ends.{Ends}
 use Rattle.fixed_interval.proofs.Rounding.{share-ordered, times_part-ordered}
-use Rattle.hyper_model.specs.Sums.{sum_below}
 use Rattle.hyper_model.proofs.Sums.{place_le_sum, rest_le, sum-le}
 use Rattle.rate_matrix.specs.Elimination.{Entries, IsLive, IsWithin, eliminated, is_raised, left_after, part_to, raised, raised_by, total_below, without_ends}
 

@@ -1,5 +1,4 @@
 use Rattle.back_solve.proofs.Tail.{tail_encloses, tail_fits}
-use Rattle.back_solve.proofs.NextWeight.{next_weight_fits, weight_of-encloses}
 use Rattle.back_solve.proofs.law_tail.Goals as goal
 
 pub returns : goal.returns
