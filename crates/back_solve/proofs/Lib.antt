@@ -2,3 +2,4 @@
 pub mod NextWeight
 pub mod WeightLists
 pub mod Tail
+mod Worked

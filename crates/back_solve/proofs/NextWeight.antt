@@ -18,7 +18,7 @@ use Rattle.back_solve.specs.Laws.{NextWeightFits}
 
 -- each weight of a list of weights
 pub weight_at : (items : List Ends) (i : ℕ) → i < length items → All IsWeight items → IsWeight (ends_at items i)
-weight_at items i inside all = All-get_or IsWeight items i (between 0 0) inside all
+weight_at items i inside all = all i (between 0 0) inside
 
 -- sums of products, where one factor of each has its place in a ratio
 cross_high : (m l a : ℕ) (x e : ℕ → Ends) (y : ℕ → ℕ) → ((i : ℕ) → i < m → l * y i ≤ (x i).hi * a)

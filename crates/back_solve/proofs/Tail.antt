@@ -7,8 +7,7 @@ use Rattle.fixed_interval.specs.Ends.{Ends, ratio_ends}
 use Rattle.fixed_interval.specs.WeightList.{ends_at}
 use Rattle.fixed_interval.proofs.Rounding.{ceil_above, div_ceil-le, div_ceil-positive, factor-positive, floor_below, rounded-ordered}
 use Rattle.fixed_interval.proofs.Shifts.{encloses_push, encloses_pushed}
-use Rattle.back_solve.specs.Laws.{TailEncloses, TailFits}
-use Rattle.back_solve.proofs.NextWeight.{weight_at}
+use Rattle.back_solve.specs.Tail.{TailEncloses, TailFits, tail_weight}
 
 pub ratio-ordered : (w : Ends) (a b : ℕ) → 0 < b → w.lo ≤ w.hi → (ratio_ends w a b).lo ≤ (ratio_ends w a b).hi
 ratio-ordered w a b some ordered = rounded-ordered b (w.lo * a) (w.hi * a) some (mul-le-mul_right a ordered)
@@ -18,7 +17,7 @@ tail_fits calls service full stable few weight =
     let some : 0 < service - calls = omega arith in
     let product = mul-le full.hi calls (2 ^ 52) (2 ^ 47) weight.1 few in
     let room : 2 ^ 99 * 1 ≤ 2 ^ 99 * (service - calls) = mul-le-mul_left (2 ^ 99) some in
-    let high : (ratio_ends full calls (service - calls)).hi ≤ 2 ^ 99 =
+    let high : (tail_weight calls service full).hi ≤ 2 ^ 99 =
     div_ceil-le (full.hi * calls) (service - calls) (2 ^ 99) some (omega (arith, product, room)) in
     (ratio-ordered full calls (service - calls) some weight.0, omega (arith, high))
 
@@ -52,10 +51,10 @@ tail_encloses calls service z old new xs stable some weights gains is e =
     let full : length old - 1 < length old = omega arith in
     let tail : (service - calls) * z ≡ calls * slice_index xs (length old - 1) =
     is ∙ ap (λ k. calls * slice_index xs k) last in
-    encloses_pushed old new (ratio_ends (ends_at old (length old - 1)) calls (service - calls)) gains (xs ++ z ∷ [])
-    (encloses_push old xs (ratio_ends (ends_at old (length old - 1)) calls (service - calls)) z
+    encloses_pushed old new (tail_weight calls service (ends_at old (length old - 1))) gains (xs ++ z ∷ [])
+    (encloses_push old xs (tail_weight calls service (ends_at old (length old - 1))) z
     (ratio-ordered (ends_at old (length old - 1)) calls (service - calls) rest
-    ((weight_at old (length old - 1) full weights).0))
+    ((weights (length old - 1) (between 0 0) full).0))
     e
     (λ i inside.
     tail_high (ends_at old i).lo (ends_at old (length old - 1)).hi (slice_index xs i)

@@ -4,7 +4,7 @@ use Rattle.fixed_interval.specs.Ends.{Ends, ratio_ends}
 use Rattle.fixed_interval.specs.WeightList.{EnclosesAll, IsWeight}
 use Rattle.hyper_model.specs.Solutions.{mass_in}
 use Rattle.rate_matrix.specs.Elimination.{Entries, HoldsAll, SameEntries}
-use Rattle.rate_matrix.specs.Weights.{AreWeightsOf, GainsTail, weight_of}
+use Rattle.rate_matrix.specs.Weights.{AreWeightsOf, weight_of}
 use Rattle.state_reduction.specs.Laws.{AreSoundEntries}
 
 -- weights of entries enclose all masses that the entries hold
@@ -40,19 +40,3 @@ abbrev pub DependOnEntries : Type 0
 DependOnEntries =
     (size n : ℕ) (a b : Entries) (items : List Ends) → n ≤ size → SameEntries size a b → AreWeightsOf a n items
     → AreWeightsOf b n items
-
--- z is the mass of all states in which a call waits, and the last of the masses that of the word in which all
--- units are busy
-abbrev pub TailEncloses : Type 0
-TailEncloses =
-    (calls service z : ℕ) (old new : List Ends) (xs : List ℕ)
-    → calls < service → 0 < length old → All IsWeight old → GainsTail calls service old new
-    → (service - calls) * z ≡ calls * mass_in xs (length xs - 1)
-    → EnclosesAll old xs → EnclosesAll new (xs ++ z ∷ [])
-
--- the tail's weight, before its shift
-abbrev pub TailFits : Type 0
-TailFits =
-    (calls service : ℕ) (full : Ends) → calls < service → calls ≤ 2 ^ 47 → IsWeight full
-    → ((ratio_ends full calls (service - calls)).lo ≤ (ratio_ends full calls (service - calls)).hi)
-    × ((ratio_ends full calls (service - calls)).hi < 2 ^ 100)

@@ -1,7 +1,8 @@
 //! The weights of a chain's states, from the entries that an elimination leaves, and their laws.
 #![tactic(auto)]
 
-ghost use Rattle.back_solve.specs.Laws.{AreWeightsDetermined, DependOnEntries, NextWeightFits, TailEncloses, TailFits, WeightsEnclose, WeightsInRange};
+ghost use Rattle.back_solve.specs.Laws.{AreWeightsDetermined, DependOnEntries, NextWeightFits, WeightsEnclose, WeightsInRange};
+ghost use Rattle.back_solve.specs.Tail.{TailEncloses, TailFits};
 
 /// The weights enclose, up to one common factor, all masses that the entries hold.
 ///

@@ -28,9 +28,3 @@ AreWeightsOf entries (suc zero) items = items ≡ exact_ends (2 ^ 52) ∷ []
 AreWeightsOf entries (suc (suc m)) items =
     (before : List Ends) × AreWeightsOf entries (suc m) before
     × PushesShifted before items (weight_of entries before (suc m))
-
--- One more weight, for the states in which a call waits: they have calls / (service - calls) times the mass
--- of the last state, in which all units are busy.
-abbrev pub GainsTail : ℕ → ℕ → List Ends → List Ends → Type 0
-GainsTail calls service old new =
-    PushesShifted old new (ratio_ends (ends_at old (length old - 1)) calls (service - calls))

@@ -10,7 +10,7 @@ use Rattle.hyper_model.specs.Tables.{RateTable, SolvesTable}
 use Rattle.hyper_model.proofs.Sums.{place_le_sum, rest_le, sum-le, sum-scaled}
 use Rattle.hyper_model.proofs.Tables.{last_place, row_of_smaller, without_last}
 use Rattle.rate_matrix.specs.Elimination.{Entries, HoldsAt, eliminated, part_to, raised, total_below, without_ends}
-use Rattle.state_reduction.proofs.Steps.{eliminated-before}
+use Rattle.rate_matrix.proofs.Raising.{eliminated-before}
 
 -- the entries of the first n states enclose the rates of a table, over one scale, and no row is past its cap
 pub record LiesIn (n scale : ℕ) (rates : RateTable) (caps : ℕ → ℕ) (entries : Entries) : Type 0 where

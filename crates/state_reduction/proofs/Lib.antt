@@ -5,3 +5,4 @@ pub mod Soundness
 pub mod FarZeros
 pub mod Enclosing
 pub mod Runs
+mod Worked

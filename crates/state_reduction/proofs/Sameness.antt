@@ -5,7 +5,7 @@ use Rattle.fixed_interval.specs.Ends.{Ends, between, share_ends}
 use Rattle.hyper_model.proofs.Sums.{sum-same}
 use Rattle.rate_matrix.specs.Elimination.{Entries, HoldsAll, HoldsAt, SameEntries, eliminated, left_after, part_to, raised, total_below, without_ends}
 use Rattle.state_reduction.specs.Laws.{IsDetermined, AreSoundEntries}
-use Rattle.state_reduction.proofs.Steps.{eliminated-before, eliminated-from, eliminated-to}
+use Rattle.rate_matrix.proofs.Raising.{eliminated-before, eliminated-from, eliminated-to}
 
 between-same : (a c b d : ℕ) → a ≡ c → b ≡ d → between a b ≡ between c d
 between-same a c b d low high = cc
