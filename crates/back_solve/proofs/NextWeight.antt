@@ -4,7 +4,6 @@ use Rattle.std.specs.Int.{div_ceil}
 use Rattle.std.proofs.Math.Nat.{div-mul-le_self, le_of_mul-le-mul_right, mul-le-mul_left, mul-le-mul_right, mul-pos}
 use Rattle.std.proofs.lemmas.Nat.{mul-le}
 use Rattle.std.proofs.lemmas.Grind.{div_ceil_times}
-use Rattle.std.proofs.lemmas.List.Elements.{All-get_or}
 use Rattle.fixed_interval.specs.Ends.{Ends, between}
 use Rattle.fixed_interval.specs.WeightList.{EnclosesAll, IsWeight, ends_at}
 use Rattle.fixed_interval.proofs.Rounding.{div_ceil-le, div_ceil-positive, factor-positive}

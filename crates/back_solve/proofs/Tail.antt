@@ -3,7 +3,7 @@ use Rattle.std.proofs.Common.{◌≡◌, ℕ, ◌-◌, ◌*◌, ◌/◌, ◌^◌
 use Rattle.std.specs.Int.{div_ceil}
 use Rattle.std.proofs.Math.Nat.{mul-le-mul_left, mul-le-mul_right, mul-pos}
 use Rattle.std.proofs.lemmas.Nat.{mul-le}
-use Rattle.fixed_interval.specs.Ends.{Ends, ratio_ends}
+use Rattle.fixed_interval.specs.Ends.{Ends, between, ratio_ends}
 use Rattle.fixed_interval.specs.WeightList.{ends_at}
 use Rattle.fixed_interval.proofs.Rounding.{ceil_above, div_ceil-le, div_ceil-positive, factor-positive, floor_below, rounded-ordered}
 use Rattle.fixed_interval.proofs.Shifts.{encloses_push, encloses_pushed}

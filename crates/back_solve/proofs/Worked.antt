@@ -1,9 +1,9 @@
 -- Worked weights, in numbers that were computed elsewhere: three states, whose weights are shifted twice.
-use Rattle.std.proofs.Common.{◌≡◌, ℕ, zero, suc, ◌+◌, ◌^◌, ◌<◌, ◌≤◌, List, [], ◌∷◌, refl, arith}
+use Rattle.std.proofs.Common.{ℕ, zero, suc, ◌^◌, ◌<◌, ◌≤◌, List, [], ◌∷◌, refl, arith}
 use Rattle.std.specs.Int.{div_ceil}
 use Rattle.std.specs.Prelude.{slice_index_or}
 use Rattle.fixed_interval.specs.Ends.{Ends, between, exact_ends}
-use Rattle.fixed_interval.specs.WeightList.{IsLeastShift, PushesShifted}
+use Rattle.fixed_interval.specs.WeightList.{PushesShifted}
 use Rattle.rate_matrix.specs.Elimination.{Entries}
 use Rattle.rate_matrix.specs.Weights.{AreWeightsOf, weight_of}
 use Rattle.back_solve.proofs.WeightLists.{weights-first, weights-next}
@@ -49,5 +49,5 @@ thirds_weights : AreWeightsOf thirds 3 three_weights
 thirds_weights =
     weights-next thirds 2 two_weights three_weights (omega arith)
     (weights-next thirds 1 (exact_ends (2 ^ 52) ∷ []) two_weights (omega arith)
-      (weights-first thirds (exact_ends (2 ^ 52) ∷ []) refl) second_pushed)
+    (weights-first thirds (exact_ends (2 ^ 52) ∷ []) refl) second_pushed)
     third_pushed

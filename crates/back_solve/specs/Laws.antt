@@ -1,6 +1,6 @@
 -- What the weights of an eliminated chain keep.
-use Rattle.std.specs.Prelude.{◌≡◌, ℕ, ◌-◌, ◌*◌, ◌^◌, ◌<◌, ◌≤◌, List, [], ◌∷◌, ◌++◌, length, All}
-use Rattle.fixed_interval.specs.Ends.{Ends, ratio_ends}
+use Rattle.std.specs.Prelude.{◌≡◌, ℕ, ◌^◌, ◌<◌, ◌≤◌, List, length, All}
+use Rattle.fixed_interval.specs.Ends.{Ends}
 use Rattle.fixed_interval.specs.WeightList.{EnclosesAll, IsWeight}
 use Rattle.hyper_model.specs.Solutions.{mass_in}
 use Rattle.rate_matrix.specs.Elimination.{Entries, HoldsAll, SameEntries}

@@ -26,4 +26,4 @@ abbrev pub TailFits : Type 0
 TailFits =
     (calls service : ℕ) (full : Ends) → calls < service → calls ≤ 2 ^ 47 → IsWeight full
     → ((tail_weight calls service full).lo ≤ (tail_weight calls service full).hi)
-        × ((tail_weight calls service full).hi < 2 ^ 100)
+    × ((tail_weight calls service full).hi < 2 ^ 100)

@@ -1,8 +1,8 @@
 -- The weights of the states, from the entries that an elimination leaves: each state's weight follows from those
 -- of the states before it. All weights together stand for masses up to one common factor.
-use Rattle.std.specs.Prelude.{◌≡◌, ℕ, zero, suc, ◌-◌, ◌*◌, ◌/◌, ◌^◌, List, [], ◌∷◌, length}
+use Rattle.std.specs.Prelude.{◌≡◌, ℕ, zero, suc, ◌*◌, ◌/◌, ◌^◌, List, [], ◌∷◌}
 use Rattle.std.specs.Int.{div_ceil}
-use Rattle.fixed_interval.specs.Ends.{Ends, between, exact_ends, ratio_ends}
+use Rattle.fixed_interval.specs.Ends.{Ends, between, exact_ends}
 use Rattle.fixed_interval.specs.WeightList.{PushesShifted, ends_at}
 use Rattle.hyper_model.specs.Sums.{sum_below}
 use Rattle.rate_matrix.specs.Elimination.{Entries, total_below}

@@ -2,7 +2,7 @@
 -- B and both; three further states have parts that are thirds, which are rounded outward.
 use Rattle.std.proofs.Common.{◌≡◌, ℕ, ◌*◌, List, [], ◌∷◌, slice_index, refl}
 use Rattle.std.specs.Prelude.{slice_index_or}
-use Rattle.fixed_interval.specs.Ends.{Ends, between, exact_ends}
+use Rattle.fixed_interval.specs.Ends.{between, exact_ends}
 use Rattle.rate_matrix.specs.Elimination.{Entries, eliminated, left_after, part_to, raised_by}
 
 -- rates in one scale, row by row
