@@ -10,6 +10,8 @@ use Rattle.fixed_interval.proofs.Rounding.{encloses_same, encloses_exact, enclos
 use Rattle.fixed_interval.proofs.Scaled.{AreScaled, holds_of_list, scaled_by}
 use Rattle.fixed_interval.proofs.Shifts.{encloses_one, encloses_push, encloses_pushed}
 use Rattle.hyper_model.specs.declared.kinds.Measure.TheVariants as measure
+use Rattle.hyper_model.specs.declared.parts.Unit as declared_unit
+use Rattle.hyper_model.specs.declared.parts.Atom.{Atom}
 use Rattle.hyper_model.specs.Solutions.{IsSolution, mass_in}
 use Rattle.hyper_model.specs.Measures.{IsContained, ContainsRatio}
 use Rattle.hyper_model.specs.declared.kinds.Enclosed.{Enclosed}
@@ -66,12 +68,14 @@ sometimes_free zero (suc busy) calls service serves balance some =
 sometimes_free (suc free) busy calls service serves balance some = omega arith
 
 -- The loss and the workload, for every solution of the balance equations.
-pub one_unit_contained : (unit : List ℕ) (service : ℕ) (atom : List ℕ) (calls x y seconds : ℕ) → 0 < service
-    → (weights : List Ends) → AreWeights (one_unit_plan unit service atom calls x y seconds) weights
-    → (xs : List ℕ) (z : ℕ) → IsSolution (one_unit_plan unit service atom calls x y seconds) xs z
-    → All (IsContained (one_unit_plan unit service atom calls x y seconds) (mass_in xs) z) (enclosed_from weights)
-one_unit_contained unit service atom calls x y seconds serves weights weighed xs z solution =
-    let plan = one_unit_plan unit service atom calls x y seconds in
+pub one_unit_contained : (unit : declared_unit.Unit) (atom : Atom) (seconds : ℕ) → 0 < unit.rate
+    → (weights : List Ends) → AreWeights (one_unit_plan unit atom seconds) weights
+    → (xs : List ℕ) (z : ℕ) → IsSolution (one_unit_plan unit atom seconds) xs z
+    → All (IsContained (one_unit_plan unit atom seconds) (mass_in xs) z) (enclosed_from weights)
+one_unit_contained unit atom seconds serves weights weighed xs z solution =
+    let plan = one_unit_plan unit atom seconds in
+    let service : ℕ = unit.rate in
+    let calls : ℕ = atom.rate in
     let free : ℕ = slice_index xs 0 in
     let busy : ℕ = slice_index xs 1 in
     let none : z ≡ 0 = solution.tail in
