@@ -4,8 +4,12 @@
 //! A word of `units` units is a `u16` below `2^units`; unit n is busy in it where bit n is set.
 #![tactic(auto)]
 
+mod dispatch;
 mod orders;
+mod sharing;
 mod words;
 
+pub use dispatch::{first_free, portion, takers, up};
 pub use orders::Order;
+pub use sharing::shows_shared_order;
 pub use words::{is_busy, level};
