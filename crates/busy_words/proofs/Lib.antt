@@ -1,0 +1,8 @@
+-- lemmas, each file on one subject
+pub mod Levels
+pub mod Ordering
+pub mod FirstGroups
+pub mod Algebra
+pub mod SetParts
+pub mod Places
+pub mod WeightParts

@@ -1,0 +1,100 @@
+ghost use Rattle.std.specs.Prelude.{◌≡◌, ℕ, ◌+◌, ◌*◌, ◌^◌, ◌<◌, ◌≤◌, List, not, nat_le, length};
+ghost use Rattle.fixed_interval.specs.Ends.{Encloses};
+ghost use Rattle.fixed_interval.specs.WeightList.{ends_at};
+ghost use Rattle.hyper_model.specs.Plans.{units};
+ghost use Rattle.hyper_model.specs.Sums.{sum_below};
+ghost use Rattle.hyper_model.specs.Words.{is_busy as is_busy_in, full_word, words};
+ghost use Rattle.hyper_model.specs.Solutions.{mass_in};
+ghost use Rattle.hyper_model.specs.Measures.{mass};
+ghost use Rattle.busy_words.specs.Order.{WordOrder, word_or_full};
+ghost use Rattle.busy_words.specs.Parts.{set_ends, set_part};
+ghost use Rattle.busy_words.specs.WeightParts.{EnclosesSolution, IsOrderOf, busy_mass, busy_part as busy_part_of, full_part as full_part_of, places, tail_part as tail_part_of};
+
+use crate::orders::Order;
+use crate::words::is_busy;
+use fixed_interval::{Iv, Weights, Wide};
+use hyper_model::Plan;
+
+/// The part of the states in which all units are busy, those in which calls wait among them: the chance that a
+/// call is lost or has to wait. In units of `1 / 2^62`.
+pub fn full_part(plan: &Plan, weights: &Weights) -> Iv
+    requires { length weights.now.items ≡ places plan.now }
+    ensures ends { result ≡ full_part_of plan.now (ends_at weights.now.items) }
+    ensures encloses { (order : WordOrder) → IsOrderOf plan.now order → (xs : List ℕ) (z : ℕ)
+        → EnclosesSolution plan.now order weights.now.items xs z
+        → Encloses result (2 ^ 62 * (mass_in xs (full_word plan.now) + z)) (mass plan.now (mass_in xs) z) }
+{
+    part_from(weights, words_of(plan) - 1)
+}
+
+/// The part of the states in which a call waits, in units of `1 / 2^62`. It is 0 where calls are lost.
+pub fn tail_part(plan: &Plan, weights: &Weights) -> Iv
+    requires { length weights.now.items ≡ places plan.now }
+    ensures ends { result ≡ tail_part_of plan.now (ends_at weights.now.items) }
+    ensures encloses { (order : WordOrder) → IsOrderOf plan.now order → (xs : List ℕ) (z : ℕ)
+        → EnclosesSolution plan.now order weights.now.items xs z
+        → Encloses result (2 ^ 62 * z) (mass plan.now (mass_in xs) z) }
+{
+    part_from(weights, words_of(plan))
+}
+
+/// The part of the states in which this unit is busy: its workload, in units of `1 / 2^62`.
+pub fn busy_part(plan: &Plan, order: &Order, weights: &Weights, unit: u8) -> Iv
+    requires order { IsOrderOf plan.now order.now }
+    requires one_each { length weights.now.items ≡ places plan.now }
+    requires unit { unit < units plan.now }
+    ensures ends { result ≡ busy_part_of plan.now order.now (ends_at weights.now.items) unit }
+    ensures encloses { (xs : List ℕ) (z : ℕ) → EnclosesSolution plan.now order.now weights.now.items xs z
+        → Encloses result (2 ^ 62 * busy_mass plan.now (mass_in xs) z unit) (mass plan.now (mass_in xs) z) }
+{
+    let (inside, rest) = busy_sums(order, weights, unit);
+    inside.part_of(rest)
+}
+
+// How many words the plan has.
+fn words_of(plan: &Plan) -> usize
+    ensures words { result ≡ words plan.now }
+    ensures least { 1 ≤ result }
+{
+    1 << plan.units()
+}
+
+// The part of the weights from this place on.
+fn part_from(weights: &Weights, first: usize) -> Iv
+    ensures { result ≡ set_part (2 ^ 62) (length weights.now.items) (λ i. nat_le first i) (ends_at weights.now.items) }
+{
+    let mut inside = Wide::new(0, 0);
+    let mut rest = Wide::new(0, 0);
+    for place in 0..weights.len() {
+        let weight = weights.get(place).wide();
+        if first <= place {
+            inside = inside.plus(weight);
+        } else {
+            rest = rest.plus(weight);
+        }
+    }
+    inside.part_of(rest)
+}
+
+// The sum of the weights at which the unit is busy, and that of the others.
+fn busy_sums(order: &Order, weights: &Weights, unit: u8) -> (Wide, Wide)
+    requires { unit < order.now.units }
+    ensures inside { result.0 ≡ set_ends (length weights.now.items) (λ i. is_busy_in (word_or_full order.now i) unit)
+        (ends_at weights.now.items) }
+    ensures rest { result.1 ≡ set_ends (length weights.now.items) (λ i. not (is_busy_in (word_or_full order.now i) unit))
+        (ends_at weights.now.items) }
+    ensures most { result.0.hi ≤ 2 ^ 65 }
+    ensures most_rest { result.1.hi ≤ 2 ^ 65 }
+{
+    let mut inside = Wide::new(0, 0);
+    let mut rest = Wide::new(0, 0);
+    for place in 0..weights.len() {
+        let weight = weights.get(place).wide();
+        if is_busy(order.word_or_full(place), unit) {
+            inside = inside.plus(weight);
+        } else {
+            rest = rest.plus(weight);
+        }
+    }
+    (inside, rest)
+}
