@@ -39,7 +39,8 @@ absent_runs (Some texts) asked file known is lacks =
     inl (record {
       ending = absent_ending;
       is_its = rw (is, lacks) refl;
-      finishes = inl (refl, appends_nothing known) })
+      finishes = inl (refl, appends_nothing known);
+    })
 
 -- want of memory before anything was written
 pub unwritten_runs : (told : Option (List NamedText)) (asked : Option (List ℕ)) (known : Option (List ℕ))
@@ -63,7 +64,8 @@ answer_runs (Some texts) asked file text ending result before after is read answ
     inl (record {
       ending = ending;
       is_its = rw is (answer_of_found (text_named texts file) text ending read answer);
-      finishes = finishes })
+      finishes = finishes;
+    })
 
 -- a run that ends Done wrote all of its text
 done_writes : (ending : Ending) (result : Outcome) (before after : Option (List ℕ)) → result ≡ outcome.Done
@@ -78,15 +80,16 @@ proved_report : (asked : Option (List ℕ)) (texts : List NamedText) (file whole
 proved_report asked texts file whole text p bytes before after is found read plan form report grew =
     let accepted = one_unit_accepted form.unit form.atom form.seconds form.serves form.placed form.called form.near in
     let shaped : (q : PlanParts) → q ≡ one_unit_plan form.unit form.atom form.seconds → AreWeights q report.weights
-        → HasSolution q × ((xs : List ℕ) (z : ℕ) → IsSolution q xs z → All (IsContained q (mass_in xs) z) (enclosed_from report.weights)) =
-        λ q same weighed.
-          let weights : AreWeights (one_unit_plan form.unit form.atom form.seconds) report.weights =
-              subst (λ (r : PlanParts). AreWeights r report.weights) same weighed in
-          subst (λ (r : PlanParts). HasSolution r
-              × ((xs : List ℕ) (z : ℕ) → IsSolution r xs z → All (IsContained r (mass_in xs) z) (enclosed_from report.weights)))
-            (sym same)
-            (has_solution (one_unit_plan form.unit form.atom form.seconds) accepted,
-             one_unit_contained form.unit form.atom form.seconds form.serves.low report.weights weights) in
+    → HasSolution q × ((xs : List ℕ) (z : ℕ) → IsSolution q xs z → All (IsContained q (mass_in xs) z) (enclosed_from report.weights)) =
+    λ q same weighed.
+    let weights : AreWeights (one_unit_plan form.unit form.atom form.seconds) report.weights =
+    subst (λ (r : PlanParts). AreWeights r report.weights) same weighed in
+    subst (λ (r : PlanParts). HasSolution r
+    × ((xs : List ℕ) (z : ℕ) → IsSolution r xs z → All (IsContained r (mass_in xs) z) (enclosed_from report.weights)))
+    (sym same) (
+      has_solution (one_unit_plan form.unit form.atom form.seconds) accepted,
+      one_unit_contained form.unit form.atom form.seconds form.serves.low report.weights weights,
+    ) in
     let holds = shaped p form.is report.weighed in
     record {
       file = file;
@@ -98,7 +101,8 @@ proved_report asked texts file whole text p bytes before after is found read pla
       read = rw read plan;
       written = subst (λ (bs : List ℕ). Appends before after bs) report.written grew;
       solvable = holds.0;
-      enclosed = holds.1 }
+      enclosed = holds.1;
+    }
 
 proved_answer : (asked : Option (List ℕ)) (texts : List NamedText) (file whole text : List ℕ)
     (given : Result PlanParts PlanRefusal) (ending : Ending) (before after : Option (List ℕ)) → asked ≡ Some file
@@ -128,4 +132,4 @@ answer_proved None asked file text ending result before after is read answer for
 answer_proved (Some texts) asked file text ending result before after is read answer form finishes = λ done.
     let whole = done_writes ending result before after done finishes in
     proved_found asked texts file text (text_named texts file) ending before after is refl read
-        (form whole.0) answer whole.0 whole.1
+    (form whole.0) answer whole.0 whole.1

@@ -35,11 +35,12 @@ calling_if false given atom calling said = absurd (cc)
 pub atom_within : (unit : List ℕ) (r : Record) (atom : Atom) → HasValues r → atom_said unit r ≡ Some atom → IsCalling atom
 atom_within unit (rec.AtomIs at name rate x y owner) atom values said =
     calling_if (bytes_eq owner unit && nat_lt 0 rate)
-        (record { name = name; rate = rate; x = x; y = y; district = 0 }) atom
-        (λ test. record {
-          placed = record { rate = values.1; x = values.2; y = values.3; district = omega arith };
-          called = grind (arith, nat_tests) })
-        said
+    (record { name = name; rate = rate; x = x; y = y; district = 0 }) atom
+    (λ test. record {
+      placed = record { rate = values.1; x = values.2; y = values.3; district = omega arith };
+      called = grind (arith, nat_tests);
+    })
+    said
 atom_within unit r atom values said = absurd (cc)
 
 seconds_if : (test : Bool) (given seconds : ℕ) → given ≤ 100000 → (if test then Some given else None) ≡ Some seconds

@@ -21,7 +21,7 @@ pub report_is : (p : PlanParts) (weights : List Ends) (share : Found) (t0 t1 t2 
     → text ≡ t3 ++ codes "end\n" → text ≡ report_lines p (enclosed_from weights)
 report_is p weights share t0 t1 t2 t3 text is e0 e1 e2 e3 e4 =
     subst (λ (f : Found). text ≡ head_bytes p
-        ++ (measure_line p (record { measure = measure.Loss; found = f })
-        ++ (measure_line p (record { measure = measure.Workload 0; found = f }) ++ [])) ++ codes "end\n") is
-      (pieces (head_bytes p) (measure_line p (record { measure = measure.Loss; found = share }))
-        (measure_line p (record { measure = measure.Workload 0; found = share })) (codes "end\n") t0 t1 t2 t3 text e0 e1 e2 e3 e4)
+    ++ (measure_line p (record { measure = measure.Loss; found = f })
+    ++ (measure_line p (record { measure = measure.Workload 0; found = f }) ++ [])) ++ codes "end\n") is
+    (pieces (head_bytes p) (measure_line p (record { measure = measure.Loss; found = share }))
+    (measure_line p (record { measure = measure.Workload 0; found = share })) (codes "end\n") t0 t1 t2 t3 text e0 e1 e2 e3 e4)

@@ -16,8 +16,8 @@ pub both_pushed : (empty one two : List Ends) (free busy : Ends) (a b calls serv
     → PushesShifted (exact_ends (2 ^ 52) ∷ []) two (ratio_ends (exact_ends (2 ^ 52)) calls service)
 both_pushed empty one two free busy a b calls service none is ratio calling serving first second =
     let started : PushesShifted [] one (exact_ends (2 ^ 52)) =
-        subst (λ (xs : List Ends). PushesShifted xs one (exact_ends (2 ^ 52))) none
-          (subst (λ (w : Ends). PushesShifted empty one w) is first) in
+    subst (λ (xs : List Ends). PushesShifted xs one (exact_ends (2 ^ 52))) none
+    (subst (λ (w : Ends). PushesShifted empty one w) is first) in
     let weight : busy ≡ ratio_ends (exact_ends (2 ^ 52)) calls service = ratio ∙ rw (is, calling, serving) refl in
     subst (λ (w : Ends). PushesShifted (exact_ends (2 ^ 52) ∷ []) two w) weight
-        (subst (λ (xs : List Ends). PushesShifted xs two busy) (first_alone one started) second)
+    (subst (λ (xs : List Ends). PushesShifted xs two busy) (first_alone one started) second)

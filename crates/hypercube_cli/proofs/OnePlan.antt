@@ -15,8 +15,15 @@ pub parts_are : (unit : declared_unit.Unit) (atom : Atom) (seconds : ℕ) (units
     (atoms : List Atom) (lists : GroupLists) (located travel : Grid) → units ≡ unit ∷ [] → atoms ≡ atom ∷ []
     → lists ≡ first_lists 1 1 → located ≡ with_cell (zero_grid 1 1) 0 0 1000 → travel ≡ with_cell (zero_grid 1 1) 0 0 seconds
     → (let parts : PlanParts = record {
-        line = line.Zero; rule = rule.Given; period = 3600; units = units; atoms = atoms; lists = lists;
-        located = located; travel = travel } in parts ≡ one_unit_plan unit atom seconds)
+      line = line.Zero;
+      rule = rule.Given;
+      period = 3600;
+      units = units;
+      atoms = atoms;
+      lists = lists;
+      located = located;
+      travel = travel;
+    } in parts ≡ one_unit_plan unit atom seconds)
 parts_are unit atom seconds units atoms lists located travel u a l p t = rw (u, a, l, p, t) refl
 
 pub never_refused : (parts : PlanParts) (unit : declared_unit.Unit) (atom : Atom) (seconds : ℕ)

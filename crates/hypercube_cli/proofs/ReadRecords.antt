@@ -19,8 +19,8 @@ behind_part front part (Some rs) = ap Some (append_assoc front part rs)
 
 said_from : (rows : List Fields) (place : ℕ) (row : Fields) → place < length rows → get_or rows place [] ≡ row
     → records_said (drop place rows)
-        ≡ option_and_then (λ read. option_map (λ rs. option_to_list read ++ rs) (records_said (drop (place + 1) rows)))
-          (result_ok (reading_of 1 false row))
+    ≡ option_and_then (λ read. option_map (λ rs. option_to_list read ++ rs) (records_said (drop (place + 1) rows)))
+    (result_ok (reading_of 1 false row))
 said_from rows place row inside is = rw (add-one, drop-cons rows place [] inside, is) refl
 
 pub said_more : (rows : List Fields) (place : ℕ) (row : Fields) (read : Option Record) (front after : List Record)
@@ -30,8 +30,8 @@ pub said_more : (rows : List Fields) (place : ℕ) (row : Fields) (read : Option
     → behind after (records_said (drop (place + 1) rows)) ≡ total
 said_more rows place row read front after total inside is said kept so_far =
     let step : records_said (drop place rows)
-        ≡ option_map (λ rs. option_to_list read ++ rs) (records_said (drop (place + 1) rows)) =
-        said_from rows place row inside is ∙ rw (← said) refl in
+    ≡ option_map (λ rs. option_to_list read ++ rs) (records_said (drop (place + 1) rows)) =
+    said_from rows place row inside is ∙ rw (← said) refl in
     rw kept (behind_part front (option_to_list read) (records_said (drop (place + 1) rows))
     ∙ ap (behind front) (sym step) ∙ so_far)
 
