@@ -1,10 +1,9 @@
 -- How a run ends, by what came of the reading and of the writing.
-use Rattle.std.proofs.Common.{◌≡◌, ℕ, ◌⊎◌, inl, inr, List, [], ◌∷◌, ◌++◌, refl, sym, ap, ◌∙◌, subst, append-nil}
+use Rattle.std.proofs.Common.{◌≡◌, ℕ, inl, inr, List, [], refl, sym, ◌∙◌, subst, append-nil}
 use Rattle.std.specs.Prelude.{Option, Some, None, Result, Ok, Err, All, IfSome, IfOk}
 use Rattle.std.specs.Option.{option_map}
 use Rattle.std.specs.Io.KnownBytes.{Appends, Keeps}
 use Rattle.outer_world.specs.Shelf.{text_named, LacksText}
-use Rattle.outer_world.specs.Sink.{AppendsFront}
 use Rattle.outer_world.specs.Taken.{taken, IsTaken}
 use Rattle.outer_world.specs.declared.named_text.NamedText.{NamedText}
 use Rattle.hyper_model.specs.declared.parts.PlanParts.{PlanParts}
@@ -14,11 +13,10 @@ use Rattle.hyper_model.proofs.PlanLaws.{has_solution}
 use Rattle.hypercube_cli.specs.declared.refusals.PlanRefusal.{PlanRefusal}
 use Rattle.hypercube_cli.specs.declared.outcome.Outcome.{Outcome}
 use Rattle.hypercube_cli.specs.declared.outcome.Outcome.TheVariants as outcome
-use Rattle.hypercube_cli.specs.declared.outcome.Refusal.TheVariants as refused
 use Rattle.hypercube_cli.specs.FirstForm.{plan_of_text}
-use Rattle.hypercube_cli.specs.FirstReport.{IsReport, report_lines}
+use Rattle.hypercube_cli.specs.FirstReport.{IsReport}
 use Rattle.hypercube_cli.specs.OneUnit.{IsOneUnit, one_unit_plan, AreWeights, enclosed_from}
-use Rattle.hypercube_cli.specs.Runs.{Ending, IsAnswer, IsEndingOfFound, IsEndingOf, Finishes, FinishesCommand, RunsCommand, WritesProved, absent_ending}
+use Rattle.hypercube_cli.specs.Runs.{Ending, IsAnswer, IsEndingOfFound, Finishes, RunsCommand, WritesProved, absent_ending}
 use Rattle.hypercube_cli.proofs.OneUnit.{one_unit_contained}
 use Rattle.hypercube_cli.proofs.OneUnitAccepted.{one_unit_accepted}
 

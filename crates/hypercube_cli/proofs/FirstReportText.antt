@@ -1,5 +1,5 @@
 -- The text of the report, piece by piece.
-use Rattle.std.proofs.Common.{◌≡◌, ℕ, List, [], ◌∷◌, ◌++◌, refl, subst, append_assoc, append-nil}
+use Rattle.std.proofs.Common.{◌≡◌, ℕ, List, [], ◌++◌, subst, append_assoc, append-nil}
 use Rattle.std.specs.Prelude.{codes}
 use Rattle.fixed_interval.specs.Ends.{Ends}
 use Rattle.hyper_model.specs.declared.kinds.Measure.TheVariants as measure

@@ -1,5 +1,5 @@
 -- The weights of the two words, as the two pushes leave them.
-use Rattle.std.proofs.Common.{◌≡◌, ℕ, ◌^◌, ◌≤◌, List, [], ◌∷◌, ◌++◌, map, refl, sym, ◌∙◌, arith, subst}
+use Rattle.std.proofs.Common.{◌≡◌, ℕ, ◌^◌, List, [], ◌∷◌, refl, sym, ◌∙◌, arith, subst}
 use Rattle.fixed_interval.specs.Ends.{Ends, exact_ends, ratio_ends}
 use Rattle.fixed_interval.specs.WeightList.{PushesShifted}
 use Rattle.fixed_interval.proofs.Shifts.{map-shifted-zero}

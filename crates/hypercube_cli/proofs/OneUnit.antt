@@ -1,19 +1,17 @@
 -- The measures of a plan of one unit lie within the ends that its weights give.
-use Rattle.std.proofs.Common.{◌≡◌, ℕ, zero, suc, ◌+◌, ◌*◌, ◌/◌, ◌^◌, ◌<◌, ◌≤◌, ◌⊎◌, inl, inr, List, [], ◌∷◌, ◌++◌, length, slice_index, All, refl, sym, ap, arith}
+use Rattle.std.proofs.Common.{◌≡◌, ℕ, zero, suc, ◌+◌, ◌*◌, ◌^◌, ◌<◌, ◌≤◌, List, [], ◌∷◌, length, slice_index, All, refl, arith}
 use Rattle.std.proofs.Math.Nat.{mul-pos}
-use Rattle.std.proofs.lemmas.Bool.{cases_lt}
 use Rattle.std.proofs.lemmas.List.Elements.{All-nil, All-cons}
-use Rattle.std.specs.Int.{div_ceil}
-use Rattle.fixed_interval.specs.Ends.{Ends, Encloses, exact_ends, ratio_ends, share_ends, outward_ends}
+use Rattle.fixed_interval.specs.Ends.{Ends, Encloses, exact_ends, ratio_ends, outward_ends}
 use Rattle.fixed_interval.specs.WeightList.{EnclosesAll, PushesShifted, ends_at}
 use Rattle.fixed_interval.proofs.Rounding.{encloses_same, encloses_exact, encloses_ratio, encloses_share, encloses_outward, factor-positive, rounded-ordered}
-use Rattle.fixed_interval.proofs.Scaled.{AreScaled, holds_of_list, scaled_by}
+use Rattle.fixed_interval.proofs.Scaled.{holds_of_list, scaled_by}
 use Rattle.fixed_interval.proofs.Shifts.{encloses_one, encloses_push, encloses_pushed}
 use Rattle.hyper_model.specs.declared.kinds.Measure.TheVariants as measure
 use Rattle.hyper_model.specs.declared.parts.Unit as declared_unit
 use Rattle.hyper_model.specs.declared.parts.Atom.{Atom}
 use Rattle.hyper_model.specs.Solutions.{IsSolution, mass_in}
-use Rattle.hyper_model.specs.Measures.{IsContained, ContainsRatio}
+use Rattle.hyper_model.specs.Measures.{IsContained}
 use Rattle.hyper_model.specs.declared.kinds.Enclosed.{Enclosed}
 use Rattle.hypercube_cli.specs.OneUnit.{one_unit_plan, AreWeights, busy_part, enclosed_from, share_found}
 

@@ -2,7 +2,7 @@
 use Rattle.std.proofs.Common.{◌≡◌, ℕ, ◌<◌, ◌≤◌, List, [], ◌∷◌, length, All, refl, arith}
 use Rattle.std.proofs.lemmas.List.Elements.{All-nil, All-cons}
 use Rattle.hyper_model.specs.Groups.{IsGrouped}
-use Rattle.hyper_model.specs.Plans.{IsAccepted, IsBetween, IsPlaced, HasUnits, HasAtoms, HasLists, HasLocations, HasTravel}
+use Rattle.hyper_model.specs.Plans.{IsAccepted, IsBetween, IsPlaced}
 use Rattle.hyper_model.specs.declared.parts.Unit as declared_unit
 use Rattle.hyper_model.specs.declared.parts.Atom.{Atom}
 use Rattle.hypercube_cli.specs.OneUnit.{one_unit_plan}

@@ -1,4 +1,4 @@
-use Rattle.std.proofs.Common.{◌≡◌, rules, arith, sym, ap, ◌∙◌, subst}
+use Rattle.std.proofs.Common.{rules, arith, sym, ap, ◌∙◌, subst}
 use Rattle.std.specs.Prelude.{Some}
 use Rattle.plan_text.specs.Form.{HasValues}
 use Rattle.plan_text.specs.declared.record.Record.{Record}

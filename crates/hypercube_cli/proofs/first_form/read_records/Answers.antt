@@ -1,4 +1,4 @@
-use Rattle.std.proofs.Common.{rules, arith, sym, ◌∙◌}
+use Rattle.std.proofs.Common.{rules, arith, sym}
 use Rattle.hypercube_cli.proofs.FirstRecords.{values_more}
 use Rattle.hypercube_cli.proofs.ReadRecords.{said_more}
 use Rattle.hypercube_cli.proofs.first_form.read_records.Goals as goal

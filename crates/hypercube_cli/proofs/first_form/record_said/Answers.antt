@@ -1,4 +1,3 @@
-use Rattle.plan_text.specs.Form.{HasValues}
 use Rattle.hypercube_cli.proofs.FirstRecords.{values_if}
 use Rattle.hypercube_cli.proofs.first_form.record_said.Goals as goal
 

@@ -1,4 +1,4 @@
-use Rattle.std.proofs.Common.{rules, map, sym}
+use Rattle.std.proofs.Common.{rules, map}
 use Rattle.std.specs.String.{string_bytes}
 use Rattle.hypercube_cli.specs.Command.{command}
 use Rattle.hypercube_cli.proofs.Endings.{absent_runs, answer_proved}
