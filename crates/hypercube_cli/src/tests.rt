@@ -146,6 +146,7 @@ fn solves_a_real_file(rt: HostRuntime) -> Result<(), Fail> {
     let mut shelf = FileShelf::of(&rt);
     let mut sink = StdoutSink::of(&rt);
     let got = hypercube(&rt, rt.alloc(), &words, &mut shelf, &mut sink);
+    fs::remove_file(&rt, file)?;
     assert_eq!(rt; got, Outcome::Done);
     Ok(())
 }
