@@ -2,8 +2,7 @@
 use Rattle.std.proofs.Common.{◌≡◌, ℕ, zero, suc, ◌+◌, ◌*◌, ◌<◌, ◌≤◌, Bool, true, false, cond, refl, arith}
 use Rattle.std.proofs.lemmas.Nat.{mul-le}
 use Rattle.hyper_model.specs.Sums.{sum_below}
-use Rattle.fixed_interval.specs.Ends.{Ends, Encloses, between, scaled_ends}
-use Rattle.fixed_interval.proofs.Rounding.{encloses_scaled}
+use Rattle.fixed_interval.specs.Ends.{Ends, Encloses, between}
 use Rattle.busy_words.specs.Algebra.{total_ends, where_ends}
 
 -- nothing encloses nothing

@@ -1,18 +1,18 @@
 -- What the parts of a plan's weights enclose, for every solution that the weights enclose.
-use Rattle.std.proofs.Common.{◌≡◌, ℕ, ◌+◌, ◌*◌, ◌^◌, ◌<◌, ◌≤◌, true, cond, leb, List, length, slice_index, refl, sym, ap, subst, ◌∙◌, arith}
+use Rattle.std.proofs.Common.{◌≡◌, ℕ, ◌+◌, ◌*◌, ◌^◌, ◌<◌, ◌≤◌, cond, leb, List, length, slice_index, ap, subst, ◌∙◌, arith}
 use Rattle.hyper_model.specs.declared.kinds.Line.{Line}
 use Rattle.hyper_model.specs.declared.kinds.Line.TheVariants as line
 use Rattle.hyper_model.specs.declared.parts.PlanParts.{PlanParts}
 use Rattle.hyper_model.specs.Sums.{sum_below}
-use Rattle.hyper_model.specs.Plans.{units, atoms, split, IsAccepted}
+use Rattle.hyper_model.specs.Plans.{units, split, IsAccepted}
 use Rattle.hyper_model.specs.Words.{words, full_word, is_busy}
-use Rattle.hyper_model.specs.Solutions.{mass_in, IsSolution}
+use Rattle.hyper_model.specs.Solutions.{mass_in}
 use Rattle.hyper_model.specs.Measures.{mass, base, taken_mass}
 use Rattle.hyper_model.proofs.Bits.{full_busy, words_full}
 use Rattle.hyper_model.proofs.Takers.{split_positive}
 use Rattle.hyper_model.proofs.Masses.{mass_positive, base_positive}
 use Rattle.fixed_interval.specs.Ends.{Ends, Encloses}
-use Rattle.fixed_interval.specs.WeightList.{EnclosesAll, ends_at}
+use Rattle.fixed_interval.specs.WeightList.{ends_at}
 use Rattle.fixed_interval.proofs.Scaled.{Holds, holds_of_list}
 use Rattle.busy_words.specs.Order.{WordOrder, IsInOrder, word_or_full}
 use Rattle.busy_words.specs.Parts.{weighed_numbers}

@@ -2,7 +2,6 @@ ghost use Rattle.std.specs.Prelude.{◌≡◌, ℕ, ◌+◌, ◌*◌, ◌^◌, �
 ghost use Rattle.fixed_interval.specs.Ends.{Encloses};
 ghost use Rattle.fixed_interval.specs.WeightList.{ends_at};
 ghost use Rattle.hyper_model.specs.Plans.{units, atoms, split, IsAccepted};
-ghost use Rattle.hyper_model.specs.Sums.{sum_below};
 ghost use Rattle.hyper_model.specs.Words.{is_busy as is_busy_in, full_word, words};
 ghost use Rattle.hyper_model.specs.Solutions.{mass_in};
 ghost use Rattle.hyper_model.specs.Measures.{mass, base, taken_mass};

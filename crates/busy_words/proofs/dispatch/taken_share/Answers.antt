@@ -1,4 +1,4 @@
-use Rattle.std.proofs.Common.{◌≡◌, ℕ, ◌/◌, ◌<◌, true, false, cond, ap, sym, ◌∙◌, arith}
+use Rattle.std.proofs.Common.{◌≡◌, ◌/◌, true, cond, ap, sym, ◌∙◌, arith}
 use Rattle.hyper_model.specs.Plans.{split}
 use Rattle.hyper_model.specs.Words.{takes, portion}
 use Rattle.busy_words.proofs.FirstGroups.{lists_grouped, level_of_takers, taker_counts, takes_told}

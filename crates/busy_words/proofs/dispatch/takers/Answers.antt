@@ -1,12 +1,9 @@
-use Rattle.std.proofs.Common.{◌≡◌, ℕ, suc, ◌+◌, ◌*◌, ◌%◌, ◌^◌, ◌<◌, ◌≤◌, not, eqb, true, false, true≢false, List, length, refl, sym, ap, ◌∙◌, arith, eq-eqb, Bool, ◌⊎◌, inl, inr}
-use Rattle.std.proofs.lemmas.Bool.{not-true}
-use Rattle.std.proofs.lemmas.List.Elements.{All-get_or}
+use Rattle.std.proofs.Common.{◌≡◌, ℕ, suc, ◌+◌, ◌*◌, ◌%◌, ◌^◌, ◌<◌, not, eqb, true, false, true≢false, length, sym, ap, ◌∙◌, arith, eq-eqb, Bool, ◌⊎◌, inl, inr}
 use Rattle.std.proofs.lemmas.Nat.{or_lt}
 use Rattle.std.proofs.Math.Pow.{pow-lt}
 use Rattle.std.specs.Int.Bits.{bit_or}
-use Rattle.hyper_model.specs.Groups.{GroupLists, IsRegular, IsGrouped, row_of, list_of, member_at, begins_at, groups_in, no_row}
-use Rattle.hyper_model.specs.Words.{is_free, is_taker}
-use Rattle.busy_words.proofs.FirstGroups.{IsCarried, search_busy, search_free, search_stops, search_ends, takers_none_full, list_reaches, list_ends, member_below}
+use Rattle.hyper_model.specs.Groups.{list_of, begins_at, groups_in}
+use Rattle.busy_words.proofs.FirstGroups.{search_busy, search_free, search_stops, search_ends, takers_none_full, list_reaches, list_ends, member_below}
 use Rattle.busy_words.proofs.dispatch.takers.Goals as goal
 use Rattle.busy_words.proofs.dispatch.takers.Goals.{else-takers-ne0-via-then-takers-ne0+else-begins, else-takers-ne0-via-else-takers-ne0, then-not-is_busy, else-not-is_busy}
 

@@ -1,5 +1,5 @@
-use Rattle.std.proofs.Common.{◌≡◌, ℕ, ◌^◌, ◌*◌, List, ap₂, sym, subst, ◌∙◌}
-use Rattle.fixed_interval.specs.Ends.{Ends, Encloses, ratio_ends, share_ends}
+use Rattle.std.proofs.Common.{◌^◌, ◌*◌, ap₂, sym, subst, ◌∙◌}
+use Rattle.fixed_interval.specs.Ends.{Encloses, ratio_ends, share_ends}
 use Rattle.hyper_model.specs.Plans.{split}
 use Rattle.hyper_model.specs.Solutions.{mass_in}
 use Rattle.hyper_model.specs.Measures.{base, taken_mass}

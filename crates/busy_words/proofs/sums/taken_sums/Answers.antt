@@ -1,11 +1,10 @@
-use Rattle.std.proofs.Common.{◌≡◌, ℕ, suc, ◌+◌, ◌-◌, ◌*◌, ◌^◌, ◌≤◌, Bool, true, false, cond, refl, sym, ap, ap₂, ◌∙◌, arith}
-use Rattle.fixed_interval.specs.Ends.{Ends, plus_ends, scaled_ends}
+use Rattle.std.proofs.Common.{◌≡◌, ℕ, suc, ◌+◌, ◌-◌, ◌^◌, ◌≤◌, Bool, true, false, cond, refl, ap, ap₂, ◌∙◌, arith}
+use Rattle.fixed_interval.specs.Ends.{plus_ends, scaled_ends}
 use Rattle.fixed_interval.specs.WeightList.{ends_at}
 use Rattle.hyper_model.specs.Plans.{split}
 use Rattle.hyper_model.specs.Words.{takes, portion}
 use Rattle.busy_words.specs.Order.{word_or_full}
-use Rattle.busy_words.specs.Parts.{weighed}
-use Rattle.busy_words.specs.WeightParts.{taken_shares, other_shares, base_places}
+use Rattle.busy_words.specs.WeightParts.{taken_shares, other_shares}
 use Rattle.busy_words.proofs.Algebra.{total_more, room_more}
 use Rattle.busy_words.proofs.sums.taken_sums.Goals as goal
 

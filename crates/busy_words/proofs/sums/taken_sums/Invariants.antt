@@ -1,4 +1,4 @@
-use Rattle.std.proofs.Common.{◌≡◌, ℕ, ◌*◌, ◌^◌, ◌≤◌}
+use Rattle.std.proofs.Common.{◌≡◌, ◌*◌, ◌^◌, ◌≤◌}
 use Rattle.fixed_interval.specs.WeightList.{ends_at}
 use Rattle.busy_words.specs.Order.{word_or_full}
 use Rattle.busy_words.specs.Parts.{weighed}
