@@ -1,12 +1,12 @@
 -- What the checks of a plan's parts find, said of the plan.
-use Rattle.std.proofs.Common.{◌≡◌, ℕ, ◌<◌, ◌∙◌, ap, sym, subst, Option, Some, List, length, drop}
+use Rattle.std.proofs.Common.{◌≡◌, ℕ, ap, sym, subst, Some, List, length, drop}
 use Rattle.std.specs.Prelude.{slice_get}
 use Rattle.std.proofs.lemmas.Option.{get_or_from_slice_get}
 use Rattle.hyper_model.specs.declared.parts.Unit as declared_unit
 use Rattle.hyper_model.specs.declared.parts.Atom.{Atom}
 use Rattle.hyper_model.specs.declared.parts.PlanParts.{PlanParts}
 use Rattle.hyper_model.specs.Groups.{GroupLists, row_of, list_of, groups_in, IsGrouped}
-use Rattle.hyper_model.specs.Plans.{units, atoms, no_unit, no_atom, groups_of, HasLists}
+use Rattle.hyper_model.specs.Plans.{no_unit, no_atom, HasLists}
 use Rattle.hyper_model.specs.Acceptance.{unit_name, atom_name, IsFullList, HasListSizes, AreGrouped}
 use Rattle.hyper_model.proofs.Grouping.{grouped_from, from_grouped}
 

@@ -1,5 +1,5 @@
 -- Words as sets of busy units: one unit turned, the word in which all are busy, and the word 0.
-use Rattle.std.proofs.Common.{◌≡◌, ◌≢◌, ℕ, zero, suc, ◌+◌, ◌-◌, ◌*◌, ◌%◌, ◌^◌, ◌<◌, ◌≤◌, ◌⊎◌, Bool, true, false, not, cond, eqb, refl, sym, ap, ◌∙◌, inl, inr, true≢false, eqb-true, arith, pow_pos}
+use Rattle.std.proofs.Common.{◌≡◌, ◌≢◌, ℕ, zero, suc, ◌+◌, ◌-◌, ◌*◌, ◌%◌, ◌^◌, ◌<◌, ◌⊎◌, Bool, true, false, not, eqb, refl, sym, ap, ◌∙◌, inl, inr, true≢false, eqb-true, arith, pow_pos}
 use Rattle.std.specs.Int.{bit_at}
 use Rattle.std.specs.Int.Bits.{bit_xor, xor_assoc, xor_self, xor_zero_r, xor_add_and}
 use Rattle.std.proofs.lemmas.Bool.{cases_lt, eqb-false}
@@ -39,7 +39,7 @@ other_digit (suc (suc a)) b c l e f = absurd (omega arith)
 pub busy_turned : (w n : ℕ) → is_busy (turned w n) n ≡ not (is_busy w n)
 busy_turned w n =
     other_digit (bit_at w n) (bit_at (2 ^ n) n) (bit_at (turned w n) n) (bit_at-lt w n) (bit_at-pow_same n)
-      (bit_at_xor w (2 ^ n) n)
+    (bit_at_xor w (2 ^ n) n)
 
 same_digit : (a b c : ℕ) → a < 2 → b ≡ 0 → c ≡ (a + b) % 2 → c ≡ a
 same_digit zero b c l e f = f ∙ ap (λ k. (0 + k) % 2) e
@@ -50,8 +50,8 @@ same_digit (suc (suc a)) b c l e f = absurd (omega arith)
 pub busy_turned_other : (w n i : ℕ) → i ≢ n → is_busy (turned w n) i ≡ is_busy w i
 busy_turned_other w n i ne =
     ap (λ a. eqb a 1)
-      (same_digit (bit_at w i) (bit_at (2 ^ n) i) (bit_at (turned w n) i) (bit_at-lt w i) (bit_at-pow_other n i ne)
-        (bit_at_xor w (2 ^ n) i))
+    (same_digit (bit_at w i) (bit_at (2 ^ n) i) (bit_at (turned w n) i) (bit_at-lt w i) (bit_at-pow_other n i ne)
+    (bit_at_xor w (2 ^ n) i))
 
 pub turned_free : (w n : ℕ) → is_busy w n ≡ false → turned w n ≡ w + 2 ^ n
 turned_free w n h =
@@ -78,29 +78,34 @@ pub all_or_one : (k : ℕ) (b : ℕ → Bool)
     → ((n : ℕ) → n < k → b n ≡ true) ⊎ ((n : ℕ) × (n < k) × (b n ≡ false))
 all_or_one zero b = inl (λ n l. absurd (omega arith))
 all_or_one (suc k) b = on_test (b k)
-    (λ t. elim (all_or_one k b)
-      [ inl all ↦ inl (λ n l. elim (cases_lt n k)
+    (λ t. elim (all_or_one k b) [
+      | inl all ↦ inl (λ n l. elim (cases_lt n k)
           [ inl m ↦ all n m | inr g ↦ let e : n ≡ k = omega arith in ap b e ∙ t ])
-      | inr one ↦ inr (one.0, omega (arith, one.1), one.2) ])
+      | inr one ↦ inr (one.0, omega (arith, one.1), one.2)
+    ])
     (λ f. inr (k, omega arith, f))
 
 -- a word in which not all units are busy has a free one
 pub free_exists : (k w : ℕ) → w < 2 ^ k → w ≢ 2 ^ k - 1 → (n : ℕ) × (n < k) × (is_busy w n ≡ false)
-free_exists k w h ne = elim (all_or_one k (is_busy w))
-  [ inr one ↦ one
-  | inl all ↦ absurd (ne (same_from_bits w (2 ^ k - 1) (λ i. elim (cases_lt i k)
-      [ inl l ↦ busy_bit w i (all i l) ∙ sym (bit_at_ones k i l)
-      | inr g ↦ bit_at_above w k i h g ∙ sym (bit_at_ones_above k i g) ]))) ]
+free_exists k w h ne = elim (all_or_one k (is_busy w)) [
+  | inr one ↦ one
+  | inl all ↦ absurd (ne (same_from_bits w (2 ^ k - 1) (λ i. elim (cases_lt i k) [
+    | inl l ↦ busy_bit w i (all i l) ∙ sym (bit_at_ones k i l)
+    | inr g ↦ bit_at_above w k i h g ∙ sym (bit_at_ones_above k i g)
+  ])))
+]
 
 -- a word that is not 0 has a busy unit
 pub busy_exists : (k w : ℕ) → w < 2 ^ k → 0 < w → (n : ℕ) × (n < k) × (is_busy w n ≡ true)
-busy_exists k w h pos = elim (all_or_one k (λ n. not (is_busy w n)))
-  [ inr one ↦ (one.0, one.1, not_back (is_busy w one.0) one.2)
+busy_exists k w h pos = elim (all_or_one k (λ n. not (is_busy w n))) [
+  | inr one ↦ (one.0, one.1, not_back (is_busy w one.0) one.2)
   | inl all ↦
-      let z : w ≡ 0 = same_from_bits w 0 (λ i. elim (cases_lt i k)
-        [ inl l ↦ free_bit w i (not_true (is_busy w i) (all i l)) ∙ sym (bit_at-zero i)
-        | inr g ↦ bit_at_above w k i h g ∙ sym (bit_at-zero i) ]) in
-      absurd (omega arith) ]
+      let z : w ≡ 0 = same_from_bits w 0 (λ i. elim (cases_lt i k) [
+        | inl l ↦ free_bit w i (not_true (is_busy w i) (all i l)) ∙ sym (bit_at-zero i)
+        | inr g ↦ bit_at_above w k i h g ∙ sym (bit_at-zero i)
+      ]) in
+      absurd (omega arith)
+]
   where
     not_back : (b : Bool) → not b ≡ false → b ≡ true
     not_back true e = refl

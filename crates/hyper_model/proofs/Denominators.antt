@@ -1,5 +1,5 @@
 -- In every solution each measure that has a value is a ratio: its denominator is positive.
-use Rattle.std.proofs.Common.{◌≡◌, ℕ, ◌+◌, ◌-◌, ◌*◌, ◌<◌, ◌≤◌, ◌==◌, Bool, true, false, List, refl, sym, ap, ◌∙◌, arith}
+use Rattle.std.proofs.Common.{◌≡◌, ℕ, ◌-◌, ◌*◌, ◌<◌, ◌==◌, false, List, refl, arith}
 use Rattle.std.proofs.lemmas.Bool.{eqb-false}
 use Rattle.std.proofs.Math.Nat.{mul-pos}
 use Rattle.hyper_model.specs.declared.kinds.Line.{Line}
@@ -7,18 +7,12 @@ use Rattle.hyper_model.specs.declared.kinds.Line.TheVariants as line
 use Rattle.hyper_model.specs.declared.kinds.Measure.{Measure}
 use Rattle.hyper_model.specs.declared.kinds.Measure.TheVariants as measure
 use Rattle.hyper_model.specs.declared.parts.PlanParts.{PlanParts}
-use Rattle.hyper_model.specs.Plans.{units, all_calls, all_service, district_calls, split, IsAccepted}
+use Rattle.hyper_model.specs.Plans.{all_calls, all_service, district_calls, split, IsAccepted}
 use Rattle.hyper_model.specs.Solutions.{mass_in, IsSolution}
-use Rattle.hyper_model.specs.Measures.{mass, base, loss_on, delay_on, queue_on, wait_on, measure_of, is_without}
+use Rattle.hyper_model.specs.Measures.{mass, base, loss_on, delay_on, queue_on, wait_on, measure_of, is_without, IsInRange}
 use Rattle.hyper_model.proofs.Takers.{split_positive}
 use Rattle.hyper_model.proofs.PlanLaws.{stable_of}
 use Rattle.hyper_model.proofs.Masses.{mass_positive, base_positive, service_total_positive, dispatched_by_positive, dispatched_all_positive, dispatched_into_positive}
-
--- the unit of whose dispatches a measure speaks is one of the plan
-abbrev pub IsUnitInRange : PlanParts → Measure → Type 0
-IsUnitInRange p (measure.InterdistrictUnit n) = n < units p
-IsUnitInRange p (measure.TravelUnit n) = n < units p
-IsUnitInRange p m = Prim.Unit {0}
 
 module _ (p : PlanParts) (a : IsAccepted p) (xs : List ℕ) (z : ℕ) (s : IsSolution p xs z) where
   calls : 0 < all_calls p
@@ -32,7 +26,7 @@ module _ (p : PlanParts) (a : IsAccepted p) (xs : List ℕ) (z : ℕ) (s : IsSol
 
   of_line : (l : Line) → p.line ≡ l
       → (0 < (loss_on l p (mass_in xs) z).denominator) × (0 < (delay_on l p (mass_in xs) z).denominator)
-        × (0 < (queue_on l p (mass_in xs) z).denominator) × (0 < (wait_on l p (mass_in xs) z).denominator)
+      × (0 < (queue_on l p (mass_in xs) z).denominator) × (0 < (wait_on l p (mass_in xs) z).denominator)
   of_line line.Zero e = (some_mass, omega arith, omega arith, omega arith)
   of_line line.Infinite e =
       let idle : 0 < all_service p - all_calls p = let more = stable_of p a e in omega (arith, more) in
@@ -42,7 +36,7 @@ module _ (p : PlanParts) (a : IsAccepted p) (xs : List ℕ) (z : ℕ) (s : IsSol
   some_calls : (n : ℕ) → (district_calls p n == 0) ≡ false → 0 < district_calls p n
   some_calls n e = let ne = eqb-false (district_calls p n) 0 e in omega (arith, ne)
 
-  pub denominator_positive : (m : Measure) → IsUnitInRange p m → is_without p m ≡ false
+  pub denominator_positive : (m : Measure) → IsInRange p m → is_without p m ≡ false
       → 0 < (measure_of p (mass_in xs) z m).denominator
   denominator_positive measure.Loss h v = (of_line p.line refl).0
   denominator_positive measure.Delay h v = (of_line p.line refl).1

@@ -1,5 +1,5 @@
 -- Cells of a table: a place of its own for each row and column.
-use Rattle.std.proofs.Common.{◌≡◌, ◌≢◌, ℕ, suc, ◌+◌, ◌*◌, ◌<◌, ◌≤◌, ◌⊎◌, inl, inr, ap, refl, arith, List, length, get_or, get_or-set_same, get_or-set_other, set}
+use Rattle.std.proofs.Common.{◌≡◌, ◌≢◌, ℕ, ◌+◌, ◌*◌, ◌<◌, ◌≤◌, ◌⊎◌, inl, inr, ap, refl, arith, List, length, get_or, get_or-set_same, get_or-set_other, set}
 use Rattle.std.proofs.Math.Nat.{mul-le-mul_right}
 use Rattle.hyper_model.specs.Grid.{SetsCell}
 

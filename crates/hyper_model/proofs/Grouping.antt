@@ -1,5 +1,5 @@
 -- Groups that are made of a list of units: what holds of the list holds of the groups together.
-use Rattle.std.proofs.Common.{◌≡◌, ℕ, zero, suc, ◌+◌, ◌-◌, ◌<◌, ◌≤◌, ◌∙◌, ap, refl, sym, arith, List, [], ◌∷◌, Bool, true, false, length, take, eqb, cond, ◌&&◌}
+use Rattle.std.proofs.Common.{◌≡◌, ℕ, ◌+◌, ◌-◌, ◌<◌, ◌∙◌, ap, refl, sym, arith, List, [], ◌∷◌, Bool, true, false, length, take, cond}
 use Rattle.std.specs.Prelude.{All, sum_by, count_by, ◌==◌}
 use Rattle.std.specs.List.{list_all}
 use Rattle.std.proofs.lemmas.Bool.Decides.{nat_tests}

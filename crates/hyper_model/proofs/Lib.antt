@@ -13,9 +13,11 @@ pub mod Relabel
 pub mod Bits
 pub mod Takers
 pub mod WordTables
+pub mod WordRates
 pub mod PlanLaws
 pub mod Masses
 pub mod Denominators
+pub mod OneValue
 pub mod Queue
 pub mod Levels
 pub mod Worked
@@ -23,3 +25,5 @@ mod WorkedOneUnit
 mod WorkedTwoUnits
 mod WorkedThreeUnits
 mod WorkedMixed
+mod WorkedAccepted
+mod WorkedGroups

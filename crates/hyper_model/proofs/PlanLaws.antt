@@ -1,5 +1,5 @@
 -- The laws of an accepted plan: a solution exists, every mass is positive, any two solutions are proportional.
-use Rattle.std.proofs.Common.{◌≡◌, ◌≢◌, ℕ, zero, suc, ◌+◌, ◌-◌, ◌*◌, ◌^◌, ◌<◌, ◌≤◌, ◌⊎◌, Bool, true, false, not, cond, List, length, refl, sym, ap, subst, ◌∙◌, inl, inr, arith, pow_pos}
+use Rattle.std.proofs.Common.{◌≡◌, ℕ, zero, suc, ◌+◌, ◌-◌, ◌*◌, ◌<◌, ◌≤◌, not, List, length, refl, sym, ap, subst, ◌∙◌, inl, inr, arith, pow_pos}
 use Rattle.std.proofs.lemmas.Bool.{cases_lt, cases_eq}
 use Rattle.std.proofs.lemmas.List.FromFn.{length-map-range_with_len}
 use Rattle.std.proofs.Math.Nat.{mul-pos}
@@ -7,11 +7,10 @@ use Rattle.hyper_model.specs.declared.kinds.Line.{Line}
 use Rattle.hyper_model.specs.declared.kinds.Line.TheVariants as line
 use Rattle.hyper_model.specs.declared.parts.PlanParts.{PlanParts}
 use Rattle.hyper_model.specs.Sums.{sum_below}
-use Rattle.hyper_model.specs.Plans.{units, service_of, all_calls, all_service, split, IsStable, IsAccepted}
-use Rattle.hyper_model.specs.Words.{words, is_busy, full_word, turned}
-use Rattle.hyper_model.specs.Rates.{up, leaving, coming, IsBalancedWord}
+use Rattle.hyper_model.specs.Plans.{units, all_calls, all_service, IsStable, IsAccepted}
+use Rattle.hyper_model.specs.Words.{words, full_word, turned}
 use Rattle.hyper_model.specs.Solutions.{mass_in, SolvesWords, IsTail, IsSolution, HasSolution}
-use Rattle.hyper_model.specs.Tables.{SolvesTable, IsBalancedState, word_table}
+use Rattle.hyper_model.specs.Tables.{SolvesTable, word_table}
 use Rattle.hyper_model.specs.Laws.{AreWordsPositive, IsTailPositive, AreWordsProportional, IsTailProportional}
 use Rattle.hyper_model.proofs.Sums.{sum-scaled, sum-same, place_le_sum, same_factor}
 use Rattle.hyper_model.proofs.Chains.{listed, listed_at, solves_alike, solution_exists, first_positive, proportional}
@@ -22,7 +21,7 @@ use Rattle.hyper_model.proofs.WordTables.{balance_is, words_descend, turn_rate_l
 pub words_positive : (p : PlanParts) → 0 < words p
 words_positive p = pow_pos (units p)
 
--- a solution of the words solves their table, and back
+-- a list solves the balance of the words where it solves that of their table
 pub solves_word_table : (p : PlanParts) → IsAccepted p → (xs : List ℕ) → SolvesWords p xs
     → SolvesTable (words p) (word_table p) (mass_in xs)
 solves_word_table p a xs s = record {
@@ -30,22 +29,30 @@ solves_word_table p a xs s = record {
   balanced = λ w l. (balance_is p a (mass_in xs) w l).0 (s.balanced w l);
 }
 
+pub table_solves_words : (p : PlanParts) → IsAccepted p → (xs : List ℕ) → length xs ≡ words p
+    → SolvesTable (words p) (word_table p) (mass_in xs) → SolvesWords p xs
+table_solves_words p a xs e s = record {
+  one_each = e;
+  positive = s.positive;
+  balanced = λ w l. (balance_is p a (mass_in xs) w l).1 (s.balanced w l);
+}
+
 pub solves_words : (p : PlanParts) → IsAccepted p → (x : ℕ → ℕ) → SolvesTable (words p) (word_table p) x
     → SolvesWords p (listed (words p) x)
 solves_words p a x s =
-    let t = solves_alike (words p) (word_table p) x (mass_in (listed (words p) x)) (listed_at (words p) x) s in
-    record {
-      one_each = length-map-range_with_len x 0 (words p);
-      positive = t.positive;
-      balanced = λ w l. (balance_is p a (mass_in (listed (words p) x)) w l).1 (t.balanced w l);
-    }
+    table_solves_words p a (listed (words p) x) (length-map-range_with_len x 0 (words p))
+    (solves_alike (words p) (word_table p) x (mass_in (listed (words p) x)) (listed_at (words p) x) s)
 
 scaled_solves : (n k : ℕ) (e : ℕ → ℕ → ℕ) (x : ℕ → ℕ) → 0 < k → SolvesTable n e x → SolvesTable n e (λ i. k * x i)
 scaled_solves n k e x h s = record {
   positive = omega (arith, sum-scaled n k x, mul-pos h s.positive);
   balanced = λ j l.
-    omega (arith, ap (λ c. k * c) (s.balanced j l), sum-scaled n k (λ i. x i * e i j),
-      sum-same n (λ i. k * x i * e i j) (λ i. k * (x i * e i j)) (λ i m. omega arith));
+      omega (
+        arith,
+        ap (λ c. k * c) (s.balanced j l),
+        sum-scaled n k (λ i. x i * e i j),
+        sum-same n (λ i. k * x i * e i j) (λ i. k * (x i * e i j)) (λ i m. omega arith),
+      );
 }
 
 -- the full word is a word
@@ -77,54 +84,62 @@ has_solution p a = on_line p.line refl
           waiting = all_calls p * x.0 (full_word p);
           solves = record {
             words = solves_words p a y
-              (scaled_solves (words p) (all_service p - all_calls p) (word_table p) x.0 (omega arith) x.1);
+                (scaled_solves (words p) (all_service p - all_calls p) (word_table p) x.0 (omega arith) x.1);
             tail = subst (λ l. IsTail l p (listed (words p) y) (all_calls p * x.0 (full_word p))) (sym e)
-              (omega (arith, ap (λ c. all_calls p * c) (listed_at (words p) y (full_word p) (full_below p))));
+                (omega (arith, ap (λ c. all_calls p * c) (listed_at (words p) y (full_word p) (full_below p))));
           };
         }
 
 -- a state into which mass flows has mass
 pub carried : (n : ℕ) (e : ℕ → ℕ → ℕ) (x : ℕ → ℕ) → SolvesTable n e x → (i j : ℕ) → i < n → j < n
     → 0 < x i → 0 < e i j → 0 < x j
-carried n e x s i j l k h r = elim (cases_lt 0 (x j))
-  [ inl pos ↦ pos
+carried n e x s i j l k h r = elim (cases_lt 0 (x j)) [
+  | inl pos ↦ pos
   | inr g ↦
       let z : x j ≡ 0 = omega arith in
-      absurd (omega (arith, s.balanced j k, ap (λ c. c * sum_below n (e j)) z, mul-pos h r,
-        place_le_sum n (λ a. x a * e a j) i l)) ]
+      absurd (omega (
+        arith,
+        s.balanced j k,
+        ap (λ c. c * sum_below n (e j)) z,
+        mul-pos h r,
+        place_le_sum n (λ a. x a * e a j) i l,
+      ))
+]
 
 module _ (p : PlanParts) (a : IsAccepted p) (x : ℕ → ℕ) (s : SolvesTable (words p) (word_table p) x) where
   -- calls fill the fleet: from a word with mass one comes to the full word
   full_from : (fuel w : ℕ) → w < words p → words p ≤ w + fuel → 0 < x w → 0 < x (full_word p)
   full_from zero w l f h = absurd (omega arith)
-  full_from (suc fuel) w l f h = elim (cases_eq w (full_word p))
-    [ inl e ↦ omega (arith, h, ap x e)
+  full_from (suc fuel) w l f h = elim (cases_eq w (full_word p)) [
+    | inl e ↦ omega (arith, h, ap x e)
     | inr ne ↦
         let free = free_exists (units p) w l ne in
         let sent = up_some p a w free.0 free.1 free.2 in
         let next = turned_lt (units p) w sent.0 l sent.1 in
         full_from fuel (turned w sent.0) next (omega (arith, turned_up w sent.0 sent.2, f))
-          (carried (words p) (word_table p) x s w (turned w sent.0) l next h
-            (omega (arith, turn_rate_le p w sent.0 sent.1, rate_free p w sent.0 sent.2, sent.3))) ]
+        (carried (words p) (word_table p) x s w (turned w sent.0) l next h
+        (omega (arith, turn_rate_le p w sent.0 sent.1, rate_free p w sent.0 sent.2, sent.3)))
+  ]
 
   -- services empty it: from the full word one comes to each word
   each_from : (fuel w : ℕ) → w < words p → words p ≤ w + fuel → 0 < x (full_word p) → 0 < x w
   each_from zero w l f h = absurd (omega arith)
-  each_from (suc fuel) w l f h = elim (cases_eq w (full_word p))
-    [ inl e ↦ omega (arith, h, ap x e)
+  each_from (suc fuel) w l f h = elim (cases_eq w (full_word p)) [
+    | inl e ↦ omega (arith, h, ap x e)
     | inr ne ↦
         let free = free_exists (units p) w l ne in
         let above = turned_lt (units p) w free.0 l free.1 in
         let ends = service_positive p a (turned w free.0) free.0 free.1 (busy_turned w free.0 ∙ ap not free.2) in
         carried (words p) (word_table p) x s (turned w free.0) w above l
-          (each_from fuel (turned w free.0) above (omega (arith, turned_up w free.0 free.2, f)) h)
-          (omega (arith, ends, ap (λ v. word_table p (turned w free.0) v) (turned_twice w free.0))) ]
+        (each_from fuel (turned w free.0) above (omega (arith, turned_up w free.0 free.2, f)) h)
+        (omega (arith, ends, ap (λ v. word_table p (turned w free.0) v) (turned_twice w free.0)))
+  ]
 
   pub each_positive : (w : ℕ) → w < words p → 0 < x w
   each_positive w l =
       each_from (words p) w l (omega arith)
-        (full_from (words p) 0 (words_positive p) (omega arith)
-          (first_positive (words p) (word_table p) x (words_descend p a) s))
+      (full_from (words p) 0 (words_positive p) (omega arith)
+      (first_positive (words p) (word_table p) x (words_descend p a) s))
 
 pub word_positive : (p : PlanParts) → IsAccepted p → (xs : List ℕ) → SolvesWords p xs
     → (w : ℕ) → w < words p → 0 < mass_in xs w
@@ -154,7 +169,7 @@ pub words_proportional : (p : PlanParts) → IsAccepted p → (xs ys : List ℕ)
     → (v w : ℕ) → v < words p → w < words p → mass_in xs v * mass_in ys w ≡ mass_in xs w * mass_in ys v
 words_proportional p a xs ys s t v w l k =
     proportional (words p) (word_table p) (mass_in xs) (mass_in ys) (words_descend p a)
-      (solves_word_table p a xs s) (solves_word_table p a ys t) v w l k
+    (solves_word_table p a xs s) (solves_word_table p a ys t) v w l k
 
 pub words_are_proportional : (p : PlanParts) → IsAccepted p → AreWordsProportional p
 words_are_proportional p a xs ys z t s r v w l k = words_proportional p a xs ys s.words r.words v w l k
@@ -170,5 +185,9 @@ tail_is_proportional p a xs ys z t s r v l = on_line p.line refl
     on_line line.Infinite e =
         let stable = stable_of p a e in
         same_factor (all_service p - all_calls p) (mass_in xs v * t) (z * mass_in ys v) (omega arith)
-          (omega (arith, ap (λ c. mass_in xs v * c) (tail_of p ys t r e), ap (λ c. c * mass_in ys v) (tail_of p xs z s e),
-            ap (λ c. all_calls p * c) (words_proportional p a xs ys s.words r.words v (full_word p) l (full_below p))))
+        (omega (
+          arith,
+          ap (λ c. mass_in xs v * c) (tail_of p ys t r e),
+          ap (λ c. c * mass_in ys v) (tail_of p xs z s e),
+          ap (λ c. all_calls p * c) (words_proportional p a xs ys s.words r.words v (full_word p) l (full_below p)),
+        ))

@@ -1,34 +1,25 @@
 -- Sums of rates and of thousandths over the first places, and what follows of the sums of an accepted plan.
-use Rattle.std.proofs.Common.{◌≡◌, ℕ, zero, suc, ◌+◌, ◌<◌, ◌≤◌, ◌⊎◌, inl, inr, ap, arith, Bool, true, false, eqb, cond}
+use Rattle.std.proofs.Common.{◌≡◌, ℕ, ◌<◌, ◌≤◌, ap, arith, Bool, false, cond}
 use Rattle.std.proofs.lemmas.Bool.Decides.{nat_tests}
 use Rattle.hyper_model.specs.declared.parts.PlanParts.{PlanParts}
 use Rattle.hyper_model.specs.Sums.{sum_below}
+use Rattle.hyper_model.proofs.Sums.{place_le_sum}
 use Rattle.hyper_model.specs.Plans.{units, atoms, service_of, all_service, located, all_below, are_single, groups_of, split, HasUnits, IsAccepted}
-
--- a term is at most the sum
-pub term_le_sum : (n : ℕ) (f : ℕ → ℕ) (i : ℕ) → i < n → f i ≤ sum_below n f
-term_le_sum zero f i h = omega arith
-term_le_sum (suc n) f i h =
-    let t : (i < n) ⊎ (i ≡ n) = grind arith in
-    elim t [
-      | inl l ↦ omega (arith, term_le_sum n f i l)
-      | inr e ↦ omega (arith, ap f e)
-    ]
 
 -- the first unit serves
 pub service_positive : (p : PlanParts) → HasUnits p → 1 ≤ all_service p
 service_positive p h =
     let first : 0 < units p = h.number.low in
-    omega (arith, (h.rates 0 first).low, term_le_sum (units p) (service_of p) 0 first)
+    omega (arith, (h.rates 0 first).low, place_le_sum (units p) (service_of p) 0 first)
 
 -- no place of a unit has more than all its thousandths
 pub located_within : (p : PlanParts) → IsAccepted p → (n k : ℕ) → n < units p → k < atoms p → located p n k ≤ 1000
-located_within p a n k h g = omega (arith, a.locations.whole n h, term_le_sum (atoms p) (located p n) k g)
+located_within p a n k h g = omega (arith, a.locations.whole n h, place_le_sum (atoms p) (located p n) k g)
 
 -- a place that fails a test is enough
 pub all_below_fails : (n : ℕ) (test : ℕ → Bool) (k : ℕ) → k < n → test k ≡ false → all_below n test ≡ false
 all_below_fails n test k h e =
-    let least : cond (test k) 0 1 ≤ sum_below n (λ i. cond (test i) 0 1) = term_le_sum n (λ i. cond (test i) 0 1) k h in
+    let least : cond (test k) 0 1 ≤ sum_below n (λ i. cond (test i) 0 1) = place_le_sum n (λ i. cond (test i) 0 1) k h in
     let one : cond (test k) 0 1 ≡ 1 = ap {B = ℕ} (λ b. cond b 0 1) e in
     grind (arith, nat_tests, least, one)
 

@@ -1,8 +1,8 @@
 -- States under other numbers: `to` gives the old number of a state, `back` the new one.
-use Rattle.std.proofs.Common.{◌≡◌, ℕ, ◌*◌, ◌<◌, ◌≤◌, refl, sym, ap, ap₂, subst, ◌∙◌, arith}
+use Rattle.std.proofs.Common.{◌≡◌, ℕ, ◌*◌, ◌<◌, sym, ap, subst, ◌∙◌, arith}
 use Rattle.hyper_model.specs.Sums.{sum_below}
 use Rattle.hyper_model.specs.Tables.{RateTable, IsBalancedState, SolvesTable}
-use Rattle.hyper_model.proofs.Sums.{sum-same, sum-permuted}
+use Rattle.hyper_model.proofs.Sums.{sum-permuted}
 use Rattle.hyper_model.proofs.Chains.{solves_alike}
 
 -- two numberings of the first n states that undo each other
@@ -26,9 +26,9 @@ pub renumbered : (n : ℕ) (to back : ℕ → ℕ) (e : RateTable) (x : ℕ → 
 renumbered n to back e x s t = record {
   positive = omega (arith, sum_relabelled n to back x s, t.positive);
   balanced = λ j l.
-    ap (λ c. x (to j) * c) (sum_relabelled n to back (e (to j)) s)
-    ∙ t.balanced (to j) (s.to_below j l)
-    ∙ sym (sum_relabelled n to back (λ i. x i * e i (to j)) s);
+      ap (λ c. x (to j) * c) (sum_relabelled n to back (e (to j)) s)
+      ∙ t.balanced (to j) (s.to_below j l)
+      ∙ sym (sum_relabelled n to back (λ i. x i * e i (to j)) s);
 }
 
 -- and back
@@ -37,10 +37,10 @@ pub renumbered_back : (n : ℕ) (to back : ℕ → ℕ) (e : RateTable) (x : ℕ
 renumbered_back n to back e x s t = record {
   positive = omega (arith, sum_relabelled n to back x s, t.positive);
   balanced = λ j l.
-    subst (λ c. IsBalancedState n e x c) (s.to_back j l)
+      subst (λ c. IsBalancedState n e x c) (s.to_back j l)
       (ap (λ c. x (to (back j)) * c) (sym (sum_relabelled n to back (e (to (back j))) s))
-        ∙ t.balanced (back j) (s.back_below j l)
-        ∙ sum_relabelled n to back (λ i. x i * e i (to (back j))) s);
+      ∙ t.balanced (back j) (s.back_below j l)
+      ∙ sum_relabelled n to back (λ i. x i * e i (to (back j))) s);
 }
 
 -- the same for masses y that are given under the new numbers
@@ -48,4 +48,4 @@ pub renumbered_masses : (n : ℕ) (to back : ℕ → ℕ) (e : RateTable) (y : �
     → SolvesTable n (relabelled to e) y → SolvesTable n e (λ j. y (back j))
 renumbered_masses n to back e y s t =
     renumbered_back n to back e (λ j. y (back j)) s
-      (solves_alike n (relabelled to e) y (λ i. y (back (to i))) (λ i l. ap y (s.back_to i l)) t)
+    (solves_alike n (relabelled to e) y (λ i. y (back (to i))) (λ i l. ap y (s.back_to i l)) t)

@@ -1,19 +1,18 @@
 -- Who takes a call: a free unit of the first group that has one. The takers of a call share it without rest.
-use Rattle.std.proofs.Common.{◌≡◌, ◌≢◌, ℕ, zero, suc, ◌+◌, ◌*◌, ◌/◌, ◌<◌, ◌≤◌, ◌⊎◌, Bool, true, false, not, cond, eqb, ◌&&◌, ◌||◌, List, [], ◌∷◌, length, refl, sym, ap, ◌∙◌, inl, inr, true≢false, eqb-true, arith}
+use Rattle.std.proofs.Common.{◌≡◌, ℕ, zero, suc, ◌*◌, ◌/◌, ◌<◌, ◌≤◌, Bool, true, false, not, cond, eqb, ◌&&◌, ◌||◌, List, [], ◌∷◌, length, refl, sym, ap, ◌∙◌, true≢false, eqb-true, arith}
 use Rattle.std.specs.Prelude.{All, sum_by, count_by, ◌==◌}
-use Rattle.std.specs.List.{list_any, list_all}
-use Rattle.std.proofs.lemmas.Bool.{cases_lt, and_parts, or_parts, not-true}
+use Rattle.std.specs.List.{list_any}
+use Rattle.std.proofs.lemmas.Bool.{and_parts, or_parts, not-true}
 use Rattle.std.proofs.lemmas.Bool.Decides.{nat_tests}
 use Rattle.std.proofs.lemmas.List.Elements.{All-head, All-tail}
 use Rattle.std.proofs.lemmas.List.Sums.{sum_by-cons}
-use Rattle.std.proofs.Math.Nat.{mul-pos}
+use Rattle.std.proofs.Math.Nat.{div-le_self, mul-le-mul_left, mul-pos}
 use Rattle.hyper_model.specs.declared.parts.PlanParts.{PlanParts}
 use Rattle.hyper_model.specs.Sums.{sum_below}
-use Rattle.hyper_model.specs.Groups.{IsGrouped}
 use Rattle.hyper_model.specs.Plans.{units, atoms, calls_of, all_calls, groups_of, are_single, all_below, split, IsAccepted}
 use Rattle.hyper_model.specs.Words.{is_busy, is_free, has_free, is_taker, takes, taker_count, portion}
 use Rattle.hyper_model.specs.Rates.{up}
-use Rattle.hyper_model.proofs.Sums.{on_test, sum-same, sum-scaled, sum-swap, sum_none, place_le_sum, positive_place, count_le, count_of_one, choices_sum}
+use Rattle.hyper_model.proofs.Sums.{on_test, sum-same, sum-scaled, sum-swap, sum-le, sum_none, place_le_sum, positive_place, count_le, count_of_one, choices_sum}
 
 -- how often unit n stands in a group, and that it does
 abbrev count_of : ℕ → List ℕ → ℕ
@@ -33,11 +32,11 @@ pub taker_free : (groups : List (List ℕ)) (w n : ℕ) → is_taker groups w n 
 taker_free [] w n h = absurd (true≢false (sym h))
 taker_free (group ∷ groups) w n h = on_test (has_free group w)
     (λ t.
-      let here : (stands_in n group && is_free w n) ≡ true =
-        sym (ap (λ c. cond c (stands_in n group && is_free w n) (is_taker groups w n)) t) ∙ h in
-      free_is_not_busy w n (and_parts (stands_in n group) (is_free w n) here).1)
+    let here : (stands_in n group && is_free w n) ≡ true =
+    sym (ap (λ c. cond c (stands_in n group && is_free w n) (is_taker groups w n)) t) ∙ h in
+    free_is_not_busy w n (and_parts (stands_in n group) (is_free w n) here).1)
     (λ f. taker_free groups w n
-      (sym (ap (λ c. cond c (stands_in n group && is_free w n) (is_taker groups w n)) f) ∙ h))
+    (sym (ap (λ c. cond c (stands_in n group && is_free w n) (is_taker groups w n)) f) ∙ h))
 
 -- a group with a free unit has one of the first k
 free_member : (k : ℕ) (group : List ℕ) (w : ℕ) → All (λ m. m < k) group → has_free group w ≡ true
@@ -46,9 +45,9 @@ free_member k [] w h t = absurd (true≢false (sym t))
 free_member k (m ∷ group) w h t = on_test (is_free w m)
     (λ free. (m, All-head (λ a. a < k) m group h, ap (λ c. c || stands_in m group) (itself m), free))
     (λ busy.
-      let rest = free_member k group w (All-tail (λ a. a < k) m group h)
-        (sym (ap (λ c. c || has_free group w) busy) ∙ t) in
-      (rest.0, rest.1, later (m == rest.0) (stands_in rest.0 group) rest.2, rest.3))
+    let rest = free_member k group w (All-tail (λ a. a < k) m group h)
+    (sym (ap (λ c. c || has_free group w) busy) ∙ t) in
+    (rest.0, rest.1, later (m == rest.0) (stands_in rest.0 group) rest.2, rest.3))
   where
     itself : (a : ℕ) → eqb a a ≡ true
     itself a = grind (arith, nat_tests)
@@ -63,10 +62,14 @@ not_member [] w n h f = refl
 not_member (m ∷ group) w n h f =
     let both = or_parts (is_free w m) (has_free group w) h in
     let other : (m == n) ≡ false = on_test (m == n)
-      (λ t. absurd (true≢false (sym f ∙ ap (λ a. is_free w a) (sym (eqb-true m n t)) ∙ both.0)))
-      (λ t. t) in
-    omega (arith, sum_by-cons (λ a. cond (a == n) 1 0) m group, ap {B = ℕ} (λ c. cond c 1 0) other,
-      not_member group w n both.1 f)
+    (λ t. absurd (true≢false (sym f ∙ ap (λ a. is_free w a) (sym (eqb-true m n t)) ∙ both.0)))
+    (λ t. t) in
+    omega (
+      arith,
+      sum_by-cons (λ a. cond (a == n) 1 0) m group,
+      ap {B = ℕ} (λ c. cond c 1 0) other,
+      not_member group w n both.1 f,
+    )
 
 -- where a unit of the groups is free, somebody takes the call
 pub taker_exists : (k : ℕ) (groups : List (List ℕ)) (w n : ℕ) → All (λ group. All (λ m. m < k) group) groups
@@ -75,16 +78,24 @@ pub taker_exists : (k : ℕ) (groups : List (List ℕ)) (w n : ℕ) → All (λ 
 taker_exists k [] w n h f pos = absurd (let q : 0 < 0 = pos in omega arith)
 taker_exists k (group ∷ groups) w n h f pos = on_test (has_free group w)
     (λ t.
-      let m = free_member k group w (All-head (λ g. All (λ a. a < k) g) group groups h) t in
-      (m.0, m.1,
-        ap (λ c. cond c (stands_in m.0 group && is_free w m.0) (is_taker groups w m.0)) t
-        ∙ ap (λ c. c && is_free w m.0) m.2 ∙ m.3))
+    let m = free_member k group w (All-head (λ g. All (λ a. a < k) g) group groups h) t in (
+      m.0,
+      m.1,
+      ap (λ c. cond c (stands_in m.0 group && is_free w m.0) (is_taker groups w m.0)) t
+          ∙ ap (λ c. c && is_free w m.0) m.2 ∙ m.3,
+    ))
     (λ none.
-      let rest = taker_exists k groups w n (All-tail (λ g. All (λ a. a < k) g) group groups h) f
-        (omega (arith, pos, sum_by-cons (count_of n) group groups,
-          not_member group w n none (not_busy_is_free w n f))) in
-      (rest.0, rest.1,
-        ap (λ c. cond c (stands_in rest.0 group && is_free w rest.0) (is_taker groups w rest.0)) none ∙ rest.2))
+    let rest = taker_exists k groups w n (All-tail (λ g. All (λ a. a < k) g) group groups h) f
+    (omega (
+      arith,
+      pos,
+      sum_by-cons (count_of n) group groups,
+      not_member group w n none (not_busy_is_free w n f),
+    )) in (
+      rest.0,
+      rest.1,
+      ap (λ c. cond c (stands_in rest.0 group && is_free w rest.0) (is_taker groups w rest.0)) none ∙ rest.2,
+    ))
 
 -- in a group of one unit, only this one stands
 alone : (group : List ℕ) → length group ≡ 1 → (a : ℕ) × ((n : ℕ) → stands_in n group ≡ true → n ≡ a)
@@ -102,15 +113,17 @@ pub takers_single : (k : ℕ) (groups : List (List ℕ)) (w : ℕ) → are_singl
 takers_single k [] w h = omega (arith, sum_none k (λ n. 0) (λ n l. refl))
 takers_single k (group ∷ groups) w h = on_test (has_free group w)
     (λ t.
-      let one = alone group (eqb-true (length group) 1 (and_parts (length group == 1) (are_single groups) h).0) in
-      count_of_one k (λ n. is_taker (group ∷ groups) w n) one.0 (λ n l s. one.1 n
-        (and_parts (stands_in n group) (is_free w n)
-          (sym (ap (λ c. cond c (stands_in n group && is_free w n) (is_taker groups w n)) t) ∙ s)).0))
+    let one = alone group (eqb-true (length group) 1 (and_parts (length group == 1) (are_single groups) h).0) in
+    count_of_one k (λ n. is_taker (group ∷ groups) w n) one.0 (λ n l s. one.1 n
+    (and_parts (stands_in n group) (is_free w n)
+    (sym (ap (λ c. cond c (stands_in n group && is_free w n) (is_taker groups w n)) t) ∙ s)).0))
     (λ none.
-      omega (arith,
-        sum-same k (λ n. cond (is_taker (group ∷ groups) w n) 1 0) (λ n. cond (is_taker groups w n) 1 0)
+    omega (
+      arith,
+      sum-same k (λ n. cond (is_taker (group ∷ groups) w n) 1 0) (λ n. cond (is_taker groups w n) 1 0)
           (λ n l. ap {B = ℕ} (λ c. cond (cond c (stands_in n group && is_free w n) (is_taker groups w n)) 1 0) none),
-        takers_single k groups w (and_parts (length group == 1) (are_single groups) h).1))
+      takers_single k groups w (and_parts (length group == 1) (are_single groups) h).1,
+    ))
 
 -- each number from 1 to 12 divides 27720
 divides_all : (f : ℕ) → 0 < f → f ≤ 12 → f * (27720 / f) ≡ 27720
@@ -133,8 +146,8 @@ divides_all (suc (suc (suc (suc (suc (suc (suc (suc (suc (suc (suc (suc (suc f))
 pub all_below_at : (n : ℕ) (test : ℕ → Bool) → all_below n test ≡ true → (k : ℕ) → k < n → test k ≡ true
 all_below_at n test h k l = on_test (test k) (λ t. t)
     (λ f. absurd
-      (let none = eqb-true (sum_below n (λ i. cond (test i) 0 1)) 0 h in
-      omega (arith, none, place_le_sum n (λ i. cond (test i) 0 1) k l, ap {B = ℕ} (λ c. cond c 0 1) f)))
+    (let none = eqb-true (sum_below n (λ i. cond (test i) 0 1)) 0 h in
+    omega (arith, none, place_le_sum n (λ i. cond (test i) 0 1) k l, ap {B = ℕ} (λ c. cond c 0 1) f)))
 
 pub split_positive : (p : PlanParts) → 0 < split p
 split_positive p = one (all_below (atoms p) (λ j. are_single (groups_of p j)))
@@ -143,20 +156,27 @@ split_positive p = one (all_below (atoms p) (λ j. are_single (groups_of p j)))
     one true = omega arith
     one false = omega arith
 
+pub split_le : (p : PlanParts) → split p ≤ 27720
+split_le p = one (all_below (atoms p) (λ j. are_single (groups_of p j)))
+  where
+    one : (b : Bool) → cond b 1 27720 ≤ 27720
+    one true = omega arith
+    one false = omega arith
+
 -- the takers of a call share it without rest
 pub portion_is : (p : PlanParts) → IsAccepted p → (j w : ℕ) → j < atoms p → 0 < taker_count p j w
     → taker_count p j w * portion p j w ≡ split p
 portion_is p a j w l some = on_test (all_below (atoms p) (λ i. are_single (groups_of p i)))
     (λ t.
-      let g : split p ≡ 1 = ap {B = ℕ} (λ c. cond c 1 27720) t in
-      let single : taker_count p j w ≤ 1 =
-        takers_single (units p) (groups_of p j) w (all_below_at (atoms p) (λ i. are_single (groups_of p i)) t j l) in
-      shared_one (taker_count p j w) (split p) some single g)
+    let g : split p ≡ 1 = ap {B = ℕ} (λ c. cond c 1 27720) t in
+    let single : taker_count p j w ≤ 1 =
+    takers_single (units p) (groups_of p j) w (all_below_at (atoms p) (λ i. are_single (groups_of p i)) t j l) in
+    shared_one (taker_count p j w) (split p) some single g)
     (λ f.
-      let g : split p ≡ 27720 = ap {B = ℕ} (λ c. cond c 1 27720) f in
-      let few : taker_count p j w ≤ 12 =
-        omega (arith, count_le (units p) (λ n. takes p j w n), a.units.number.high) in
-      ap (λ s. taker_count p j w * (s / taker_count p j w)) g ∙ divides_all (taker_count p j w) some few ∙ sym g)
+    let g : split p ≡ 27720 = ap {B = ℕ} (λ c. cond c 1 27720) f in
+    let few : taker_count p j w ≤ 12 =
+    omega (arith, count_le (units p) (λ n. takes p j w n), a.units.number.high) in
+    ap (λ s. taker_count p j w * (s / taker_count p j w)) g ∙ divides_all (taker_count p j w) some few ∙ sym g)
   where
     shared_one : (f s : ℕ) → 0 < f → f ≤ 1 → s ≡ 1 → f * (s / f) ≡ s
     shared_one zero s h l e = absurd (omega arith)
@@ -186,14 +206,17 @@ takers_none p j w h =
 pub shares_sum : (p : PlanParts) → IsAccepted p → (j w n : ℕ) → j < atoms p → n < units p → is_busy w n ≡ false
     → sum_below (units p) (λ m. cond (takes p j w m) (portion p j w) 0) ≡ split p
 shares_sum p a j w n l k f =
-    omega (arith, choices_sum (units p) (portion p j w) (λ m. takes p j w m),
-      portion_is p a j w l (takers_positive p a j w n l k f))
+    omega (
+      arith,
+      choices_sum (units p) (portion p j w) (λ m. takes p j w m),
+      portion_is p a j w l (takers_positive p a j w n l k f),
+    )
 
 -- a busy unit is not sent
 pub up_busy : (p : PlanParts) (w n : ℕ) → is_busy w n ≡ true → up p w n ≡ 0
 up_busy p w n b =
     sum_none (atoms p) (λ j. cond (takes p j w n) (calls_of p j * portion p j w) 0)
-      (λ j l. ap (λ c. cond c (calls_of p j * portion p j w) 0) (not_taken p j w n b))
+    (λ j l. ap (λ c. cond c (calls_of p j * portion p j w) 0) (not_taken p j w n b))
 
 -- in a word with a free unit, all calls go to somebody
 pub up_all : (p : PlanParts) → IsAccepted p → (w n : ℕ) → n < units p → is_busy w n ≡ false
@@ -201,21 +224,43 @@ pub up_all : (p : PlanParts) → IsAccepted p → (w n : ℕ) → n < units p �
 up_all p a w n k f =
     sum-swap (units p) (atoms p) (λ m j. cond (takes p j w m) (calls_of p j * portion p j w) 0)
     ∙ sum-same (atoms p) (λ j. sum_below (units p) (λ m. cond (takes p j w m) (calls_of p j * portion p j w) 0))
-        (λ j. split p * calls_of p j) (λ j l. of_atom j l)
+    (λ j. split p * calls_of p j) (λ j l. of_atom j l)
     ∙ sum-scaled (atoms p) (split p) (calls_of p)
   where
     of_atom : (j : ℕ) → j < atoms p
         → sum_below (units p) (λ m. cond (takes p j w m) (calls_of p j * portion p j w) 0) ≡ split p * calls_of p j
     of_atom j l =
-        omega (arith, choices_sum (units p) (calls_of p j * portion p j w) (λ m. takes p j w m),
-          ap (λ g. calls_of p j * g) (portion_is p a j w l (takers_positive p a j w n l k f)))
+        omega (
+          arith,
+          choices_sum (units p) (calls_of p j * portion p j w) (λ m. takes p j w m),
+          ap (λ g. calls_of p j * g) (portion_is p a j w l (takers_positive p a j w n l k f)),
+        )
 
 -- and so there is a free unit that is sent
 pub up_some : (p : PlanParts) → IsAccepted p → (w n : ℕ) → n < units p → is_busy w n ≡ false
     → (m : ℕ) × (m < units p) × (is_busy w m ≡ false) × (0 < up p w m)
 up_some p a w n k f =
     let m = positive_place (units p) (up p w)
-      (omega (arith, up_all p a w n k f, mul-pos (split_positive p) a.atoms.calls.low)) in
-    (m.0, m.1, on_test (is_busy w m.0)
-      (λ b. absurd (let z = up_busy p w m.0 b in omega (arith, m.2, z)))
-      (λ b. b), m.2)
+    (omega (arith, up_all p a w n k f, mul-pos (split_positive p) a.atoms.calls.low)) in (
+      m.0,
+      m.1,
+      on_test (is_busy w m.0)
+          (λ b. absurd (let z = up_busy p w m.0 b in omega (arith, m.2, z)))
+          (λ b. b),
+      m.2,
+    )
+
+-- a unit is sent to some of all calls
+pub up_le : (p : PlanParts) (w n : ℕ) → up p w n ≤ split p * all_calls p
+up_le p w n =
+    omega (
+      arith,
+      sum-le (atoms p) (λ j. cond (takes p j w n) (calls_of p j * portion p j w) 0) (λ j. split p * calls_of p j)
+          (λ j l. of_atom (takes p j w n) j),
+      sum-scaled (atoms p) (split p) (calls_of p),
+    )
+  where
+    of_atom : (b : Bool) (j : ℕ) → cond b (calls_of p j * portion p j w) 0 ≤ split p * calls_of p j
+    of_atom true j =
+        omega (arith, mul-le-mul_left (calls_of p j) (div-le_self (split p) (taker_count p j w)))
+    of_atom false j = omega arith

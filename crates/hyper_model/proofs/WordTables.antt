@@ -1,5 +1,5 @@
 -- The rates between words as one table: its balance is that of the words.
-use Rattle.std.proofs.Common.{◌≡◌, ◌≢◌, ℕ, zero, suc, ◌+◌, ◌-◌, ◌*◌, ◌^◌, ◌<◌, ◌≤◌, ◌⊎◌, ◌↔◌, Bool, true, false, not, cond, eqb, refl, sym, ap, ◌∙◌, inl, inr, true≢false, eq-eqb, arith}
+use Rattle.std.proofs.Common.{◌≡◌, ◌≢◌, ℕ, ◌+◌, ◌*◌, ◌<◌, ◌≤◌, ◌↔◌, true, false, not, cond, eqb, refl, sym, ap, ◌∙◌, inl, inr, eq-eqb, arith}
 use Rattle.std.proofs.lemmas.Bool.{cases_eq, ne_eqb}
 use Rattle.std.proofs.Math.Nat.{mul-pos}
 use Rattle.hyper_model.specs.declared.parts.PlanParts.{PlanParts}
@@ -30,25 +30,25 @@ pub row_is : (p : PlanParts) (v : ℕ) → v < words p
 row_is p v l =
     sum-swap (words p) (units p) (λ w n. cond (eqb w (turned v n)) (turn_rate p v n) 0)
     ∙ sum-same (units p) (λ n. sum_below (words p) (λ w. cond (eqb w (turned v n)) (turn_rate p v n) 0))
-        (turn_rate p v)
-        (λ n k. sum-at (words p) (λ w. turn_rate p v n) (turned v n) (turned_lt (units p) v n l k))
+    (turn_rate p v)
+    (λ n k. sum-at (words p) (λ w. turn_rate p v n) (turned v n) (turned_lt (units p) v n l k))
 
 -- the flow into a word
 pub column_is : (p : PlanParts) (x : ℕ → ℕ) (w : ℕ) → w < words p
     → sum_below (words p) (λ v. x v * word_table p v w)
-      ≡ sum_below (units p) (λ n. x (turned w n) * turn_rate p (turned w n) n)
+    ≡ sum_below (units p) (λ n. x (turned w n) * turn_rate p (turned w n) n)
 column_is p x w l =
     sum-same (words p) (λ v. x v * word_table p v w)
-      (λ v. sum_below (units p) (λ n. cond (eqb v (turned w n)) (x v * turn_rate p v n) 0))
-      (λ v k. sym (sum-scaled (units p) (x v) (λ n. cond (eqb w (turned v n)) (turn_rate p v n) 0))
-        ∙ sum-same (units p) (λ n. x v * cond (eqb w (turned v n)) (turn_rate p v n) 0)
-            (λ n. cond (eqb v (turned w n)) (x v * turn_rate p v n) 0)
-            (λ n h. cond_scaled (eqb w (turned v n)) (x v) (turn_rate p v n)
-              ∙ ap (λ c. cond c (x v * turn_rate p v n) 0) (either_way w v n)))
+    (λ v. sum_below (units p) (λ n. cond (eqb v (turned w n)) (x v * turn_rate p v n) 0))
+    (λ v k. sym (sum-scaled (units p) (x v) (λ n. cond (eqb w (turned v n)) (turn_rate p v n) 0))
+    ∙ sum-same (units p) (λ n. x v * cond (eqb w (turned v n)) (turn_rate p v n) 0)
+    (λ n. cond (eqb v (turned w n)) (x v * turn_rate p v n) 0)
+    (λ n h. cond_scaled (eqb w (turned v n)) (x v) (turn_rate p v n)
+    ∙ ap (λ c. cond c (x v * turn_rate p v n) 0) (either_way w v n)))
     ∙ sum-swap (words p) (units p) (λ v n. cond (eqb v (turned w n)) (x v * turn_rate p v n) 0)
     ∙ sum-same (units p) (λ n. sum_below (words p) (λ v. cond (eqb v (turned w n)) (x v * turn_rate p v n) 0))
-        (λ n. x (turned w n) * turn_rate p (turned w n) n)
-        (λ n h. sum-at (words p) (λ v. x v * turn_rate p v n) (turned w n) (turned_lt (units p) w n l h))
+    (λ n. x (turned w n) * turn_rate p (turned w n) n)
+    (λ n h. sum-at (words p) (λ v. x v * turn_rate p v n) (turned w n) (turned_lt (units p) w n l h))
   where
     either_way : (w v n : ℕ) → eqb w (turned v n) ≡ eqb v (turned w n)
     either_way w v n = same_test w (turned v n) v (turned w n)
@@ -69,38 +69,45 @@ pub leaving_is : (p : PlanParts) → IsAccepted p → (w : ℕ) → w < words p
     → leaving p w ≡ sum_below (units p) (turn_rate p w)
 leaving_is p a w l =
     let parts = sum-same (units p) (turn_rate p w) (λ n. up p w n + down p w n) (λ n k. rate_parts p w n)
-      ∙ sum-add (units p) (up p w) (down p w) in
-    elim (cases_eq w (full_word p))
-      [ inl e ↦
+    ∙ sum-add (units p) (up p w) (down p w) in
+    elim (cases_eq w (full_word p)) [
+      | inl e ↦
           let none = sum_none (units p) (up p w)
-            (λ n k. up_busy p w n (ap (λ c. is_busy c n) e ∙ full_busy (units p) n k)) in
+          (λ n k. up_busy p w n (ap (λ c. is_busy c n) e ∙ full_busy (units p) n k)) in
           omega (arith, parts, none, leaving_full p w e)
       | inr ne ↦
           let free = free_exists (units p) w l ne in
-          omega (arith, parts, up_all p a w free.0 free.1 free.2, leaving_other p w ne) ]
+          omega (arith, parts, up_all p a w free.0 free.1 free.2, leaving_other p w ne)
+    ]
 
 pub coming_is : (p : PlanParts) (x : ℕ → ℕ) (w : ℕ)
     → coming p x w ≡ sum_below (units p) (λ n. x (turned w n) * turn_rate p (turned w n) n)
 coming_is p x w =
     sym (sum-add (units p) (λ n. cond (is_busy w n) (x (turned w n) * up p (turned w n) n) 0)
-      (λ n. cond (is_busy w n) 0 (x (turned w n) * (split p * service_of p n))))
+    (λ n. cond (is_busy w n) 0 (x (turned w n) * (split p * service_of p n))))
     ∙ sum-same (units p)
-        (λ n. cond (is_busy w n) (x (turned w n) * up p (turned w n) n) 0
-          + cond (is_busy w n) 0 (x (turned w n) * (split p * service_of p n)))
-        (λ n. x (turned w n) * turn_rate p (turned w n) n)
-        (λ n k. of_unit n)
+    (λ n. cond (is_busy w n) (x (turned w n) * up p (turned w n) n) 0
+    + cond (is_busy w n) 0 (x (turned w n) * (split p * service_of p n)))
+    (λ n. x (turned w n) * turn_rate p (turned w n) n)
+    (λ n k. of_unit n)
   where
     of_unit : (n : ℕ)
         → cond (is_busy w n) (x (turned w n) * up p (turned w n) n) 0
-          + cond (is_busy w n) 0 (x (turned w n) * (split p * service_of p n))
-          ≡ x (turned w n) * turn_rate p (turned w n) n
+        + cond (is_busy w n) 0 (x (turned w n) * (split p * service_of p n))
+        ≡ x (turned w n) * turn_rate p (turned w n) n
     of_unit n = on_test (is_busy w n)
-        (λ b. omega (arith, ap (λ c. cond c (x (turned w n) * up p (turned w n) n) 0) b,
+        (λ b. omega (
+          arith,
+          ap (λ c. cond c (x (turned w n) * up p (turned w n) n) 0) b,
           ap (λ c. cond c 0 (x (turned w n) * (split p * service_of p n))) b,
-          ap (λ a. x (turned w n) * a) (rate_free p (turned w n) n (busy_turned w n ∙ ap not b))))
-        (λ b. omega (arith, ap (λ c. cond c (x (turned w n) * up p (turned w n) n) 0) b,
+          ap (λ a. x (turned w n) * a) (rate_free p (turned w n) n (busy_turned w n ∙ ap not b)),
+        ))
+        (λ b. omega (
+          arith,
+          ap (λ c. cond c (x (turned w n) * up p (turned w n) n) 0) b,
           ap (λ c. cond c 0 (x (turned w n) * (split p * service_of p n))) b,
-          ap (λ a. x (turned w n) * a) (rate_busy p (turned w n) n (busy_turned w n ∙ ap not b))))
+          ap (λ a. x (turned w n) * a) (rate_busy p (turned w n) n (busy_turned w n ∙ ap not b)),
+        ))
 
 -- a word's balance is that of the table
 pub balance_is : (p : PlanParts) → IsAccepted p → (x : ℕ → ℕ) (w : ℕ) → w < words p
@@ -113,8 +120,11 @@ balance_is p a x w l =
 -- the rate of the unit that changes is a part of the table's rate
 pub turn_rate_le : (p : PlanParts) (v n : ℕ) → n < units p → turn_rate p v n ≤ word_table p v (turned v n)
 turn_rate_le p v n k =
-    omega (arith, ap (λ c. cond c (turn_rate p v n) 0) (eq-eqb (turned v n) (turned v n) refl),
-      place_le_sum (units p) (λ i. cond (eqb (turned v n) (turned v i)) (turn_rate p v i) 0) n k)
+    omega (
+      arith,
+      ap (λ c. cond c (turn_rate p v n) 0) (eq-eqb (turned v n) (turned v n) refl),
+      place_le_sum (units p) (λ i. cond (eqb (turned v n) (turned v i)) (turn_rate p v i) 0) n k,
+    )
 
 -- a busy unit ends its service
 pub service_positive : (p : PlanParts) → IsAccepted p → (v n : ℕ) → n < units p → is_busy v n ≡ true

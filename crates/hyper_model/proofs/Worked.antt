@@ -1,5 +1,5 @@
 -- What the worked plans share: balance at each word of a short list of masses, and the ends of a measure.
-use Rattle.std.proofs.Common.{inl, inr, ℕ, zero, suc, ◌-◌, ◌<◌, Bool, true, List, ◌++◌, length, replicate, arith, subst, sym}
+use Rattle.std.proofs.Common.{inl, inr, ℕ, zero, suc, ◌<◌, Bool, List, arith, subst, sym}
 use Rattle.std.proofs.lemmas.Bool.{cases_eq}
 use Rattle.hyper_model.specs.declared.kinds.Measure.{Measure}
 use Rattle.hyper_model.specs.declared.parts.PlanParts.{PlanParts}
@@ -19,13 +19,13 @@ each_below (suc n) P all k below = elim (cases_eq k n) [
   | inr earlier ↦ each_below n P all.0 k (omega arith)
 ]
 
--- the ends lo and hi, in last printed digits, contain the plan's measure
-abbrev pub Holds : PlanParts → List ℕ → ℕ → Measure → ℕ → ℕ → Type 0
-Holds p xs z m lo hi = ContainsRatio lo hi (scale_of m) (measure_of p (mass_in xs) z m)
+pub each_pair : (n : ℕ) (P : ℕ → ℕ → Type 0) → EachBelow n (λ i. EachBelow n (P i)) → (i j : ℕ) → i < n → j < n → P i j
+each_pair n P all i j i_below j_below = each_below n (P i) (each_below n (λ k. EachBelow n (P k)) all i i_below) j j_below
 
--- a list of an atom, with the rest of its twelve places as they were at first
+-- the plan's measure lies between lo and hi, counted in its last printed digit
+abbrev pub LiesBetween : PlanParts → List ℕ → ℕ → Measure → ℕ → ℕ → Type 0
+LiesBetween p xs z m lo hi = ContainsRatio lo hi (scale_of m) (measure_of p (mass_in xs) z m)
+
+-- an atom's list
 abbrev pub row_of_units : List ℕ → List Bool → AtomList
-row_of_units units begins = record {
-  members = units ++ replicate (12 - length units) 0;
-  begins = begins ++ replicate (12 - length begins) true;
-}
+row_of_units units begins = record { members = units; begins = begins }

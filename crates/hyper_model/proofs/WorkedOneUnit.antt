@@ -9,7 +9,7 @@ use Rattle.hyper_model.specs.declared.kinds.Measure.TheVariants as measure
 use Rattle.hyper_model.specs.declared.parts.PlanParts.{PlanParts}
 use Rattle.hyper_model.specs.Measures.{is_without}
 use Rattle.hyper_model.specs.Solutions.{IsSolution}
-use Rattle.hyper_model.proofs.Worked.{each_below, Holds, row_of_units}
+use Rattle.hyper_model.proofs.Worked.{each_below, LiesBetween, row_of_units}
 
 -- unit A, in its atom P for all its free time, serves its own district
 abbrev one_unit : Line → ℕ → ℕ → PlanParts
@@ -41,35 +41,35 @@ half_load_solution = record {
   tail = refl;
 }
 
-abbrev half_load_holds : Measure → ℕ → ℕ → Type 0
-half_load_holds = Holds half_load half_load_masses 0
+abbrev half_load_between : Measure → ℕ → ℕ → Type 0
+half_load_between = LiesBetween half_load half_load_masses 0
 
-pub half_load_loss : half_load_holds measure.Loss 333333 333334
+pub half_load_loss : half_load_between measure.Loss 333333 333334
 half_load_loss = omega arith
 
 pub half_load_waiting :
-    half_load_holds measure.Delay 0 0
-    × half_load_holds measure.Queue 0 0
-    × half_load_holds measure.Wait 0 0
+    half_load_between measure.Delay 0 0
+    × half_load_between measure.Queue 0 0
+    × half_load_between measure.Wait 0 0
 half_load_waiting = omega arith
 
-pub half_load_workload : half_load_holds (measure.Workload 0) 333333 333334
+pub half_load_workload : half_load_between (measure.Workload 0) 333333 333334
 half_load_workload = omega arith
 
-pub half_load_dispatch : half_load_holds (measure.Dispatch 0 0) 1000000 1000000
+pub half_load_dispatch : half_load_between (measure.Dispatch 0 0) 1000000 1000000
 half_load_dispatch = omega arith
 
 pub half_load_interdistrict :
-    half_load_holds measure.Interdistrict 0 0
-    × half_load_holds (measure.InterdistrictUnit 0) 0 0
-    × half_load_holds (measure.InterdistrictDistrict 0) 0 0
+    half_load_between measure.Interdistrict 0 0
+    × half_load_between (measure.InterdistrictUnit 0) 0 0
+    × half_load_between (measure.InterdistrictDistrict 0) 0 0
 half_load_interdistrict = omega arith
 
 pub half_load_travel :
-    half_load_holds measure.Travel 300000 300000
-    × half_load_holds (measure.TravelAtom 0) 300000 300000
-    × half_load_holds (measure.TravelUnit 0) 300000 300000
-    × half_load_holds (measure.TravelDistrict 0) 300000 300000
+    half_load_between measure.Travel 300000 300000
+    × half_load_between (measure.TravelAtom 0) 300000 300000
+    × half_load_between (measure.TravelUnit 0) 300000 300000
+    × half_load_between (measure.TravelDistrict 0) 300000 300000
 half_load_travel = omega arith
 
 pub half_load_without :
@@ -94,29 +94,29 @@ third_load_solution = record {
   tail = refl;
 }
 
-abbrev third_load_holds : Measure → ℕ → ℕ → Type 0
-third_load_holds = Holds third_load third_load_masses 0
+abbrev third_load_between : Measure → ℕ → ℕ → Type 0
+third_load_between = LiesBetween third_load third_load_masses 0
 
-pub third_load_loss : third_load_holds measure.Loss 249999 250001
+pub third_load_loss : third_load_between measure.Loss 249999 250001
 third_load_loss = omega arith
 
-pub third_load_workload : third_load_holds (measure.Workload 0) 249999 250001
+pub third_load_workload : third_load_between (measure.Workload 0) 249999 250001
 third_load_workload = omega arith
 
-pub third_load_dispatch : third_load_holds (measure.Dispatch 0 0) 1000000 1000000
+pub third_load_dispatch : third_load_between (measure.Dispatch 0 0) 1000000 1000000
 third_load_dispatch = omega arith
 
 pub third_load_interdistrict :
-    third_load_holds measure.Interdistrict 0 0
-    × third_load_holds (measure.InterdistrictUnit 0) 0 0
-    × third_load_holds (measure.InterdistrictDistrict 0) 0 0
+    third_load_between measure.Interdistrict 0 0
+    × third_load_between (measure.InterdistrictUnit 0) 0 0
+    × third_load_between (measure.InterdistrictDistrict 0) 0 0
 third_load_interdistrict = omega arith
 
 pub third_load_travel :
-    third_load_holds measure.Travel 300000 300000
-    × third_load_holds (measure.TravelAtom 0) 300000 300000
-    × third_load_holds (measure.TravelUnit 0) 300000 300000
-    × third_load_holds (measure.TravelDistrict 0) 300000 300000
+    third_load_between measure.Travel 300000 300000
+    × third_load_between (measure.TravelAtom 0) 300000 300000
+    × third_load_between (measure.TravelUnit 0) 300000 300000
+    × third_load_between (measure.TravelDistrict 0) 300000 300000
 third_load_travel = omega arith
 
 -- the same rates, and a call that finds the unit busy waits
@@ -136,35 +136,35 @@ short_queue_solution = record {
   tail = refl;
 }
 
-abbrev short_queue_holds : Measure → ℕ → ℕ → Type 0
-short_queue_holds = Holds short_queue short_queue_masses 1
+abbrev short_queue_between : Measure → ℕ → ℕ → Type 0
+short_queue_between = LiesBetween short_queue short_queue_masses 1
 
-pub short_queue_loss : short_queue_holds measure.Loss 0 0
+pub short_queue_loss : short_queue_between measure.Loss 0 0
 short_queue_loss = omega arith
 
 pub short_queue_waiting :
-    short_queue_holds measure.Delay 333333 333334
-    × short_queue_holds measure.Queue 166666 166667
-    × short_queue_holds measure.Wait 599999 600001
+    short_queue_between measure.Delay 333333 333334
+    × short_queue_between measure.Queue 166666 166667
+    × short_queue_between measure.Wait 599999 600001
 short_queue_waiting = omega arith
 
-pub short_queue_workload : short_queue_holds (measure.Workload 0) 333333 333334
+pub short_queue_workload : short_queue_between (measure.Workload 0) 333333 333334
 short_queue_workload = omega arith
 
-pub short_queue_dispatch : short_queue_holds (measure.Dispatch 0 0) 999999 1000000
+pub short_queue_dispatch : short_queue_between (measure.Dispatch 0 0) 999999 1000000
 short_queue_dispatch = omega arith
 
 pub short_queue_interdistrict :
-    short_queue_holds measure.Interdistrict 0 0
-    × short_queue_holds (measure.InterdistrictUnit 0) 0 0
-    × short_queue_holds (measure.InterdistrictDistrict 0) 0 0
+    short_queue_between measure.Interdistrict 0 0
+    × short_queue_between (measure.InterdistrictUnit 0) 0 0
+    × short_queue_between (measure.InterdistrictDistrict 0) 0 0
 short_queue_interdistrict = omega arith
 
 pub short_queue_travel :
-    short_queue_holds measure.Travel 299999 300000
-    × short_queue_holds (measure.TravelAtom 0) 299999 300000
-    × short_queue_holds (measure.TravelUnit 0) 299999 300000
-    × short_queue_holds (measure.TravelDistrict 0) 299999 300000
+    short_queue_between measure.Travel 299999 300000
+    × short_queue_between (measure.TravelAtom 0) 299999 300000
+    × short_queue_between (measure.TravelUnit 0) 299999 300000
+    × short_queue_between (measure.TravelDistrict 0) 299999 300000
 short_queue_travel = omega arith
 
 -- hardly less calls than service: nearly a million calls wait
@@ -184,13 +184,13 @@ long_queue_solution = record {
   tail = refl;
 }
 
-abbrev long_queue_holds : Measure → ℕ → ℕ → Type 0
-long_queue_holds = Holds long_queue long_queue_masses 999998000001
+abbrev long_queue_between : Measure → ℕ → ℕ → Type 0
+long_queue_between = LiesBetween long_queue long_queue_masses 999998000001
 
-pub long_queue_waiting : long_queue_holds measure.Queue 999998000000 999998000002
+pub long_queue_waiting : long_queue_between measure.Queue 999998000000 999998000002
 long_queue_waiting = omega arith
 
-pub long_queue_workload : long_queue_holds (measure.Workload 0) 999998 1000000
+pub long_queue_workload : long_queue_between (measure.Workload 0) 999998 1000000
 long_queue_workload = omega arith
 
 -- ten calls in the time of one service, nearly all of them lost
@@ -210,8 +210,8 @@ overload_solution = record {
   tail = refl;
 }
 
-abbrev overload_holds : Measure → ℕ → ℕ → Type 0
-overload_holds = Holds overload overload_masses 0
+abbrev overload_between : Measure → ℕ → ℕ → Type 0
+overload_between = LiesBetween overload overload_masses 0
 
-pub overload_loss : overload_holds measure.Loss 909090 909091
+pub overload_loss : overload_between measure.Loss 909090 909091
 overload_loss = omega arith

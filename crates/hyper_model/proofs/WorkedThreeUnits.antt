@@ -8,7 +8,7 @@ use Rattle.hyper_model.specs.declared.kinds.Measure.TheVariants as measure
 use Rattle.hyper_model.specs.declared.parts.PlanParts.{PlanParts}
 use Rattle.hyper_model.specs.Measures.{is_without}
 use Rattle.hyper_model.specs.Solutions.{IsSolution}
-use Rattle.hyper_model.proofs.Worked.{each_below, Holds, row_of_units}
+use Rattle.hyper_model.proofs.Worked.{each_below, LiesBetween, row_of_units}
 
 -- one call in the time of 300,000 services of each unit
 abbrev rare_calls : PlanParts
@@ -49,13 +49,13 @@ rare_calls_solution = record {
   tail = refl;
 }
 
-abbrev rare_calls_holds : Measure → ℕ → ℕ → Type 0
-rare_calls_holds = Holds rare_calls rare_calls_masses 0
+abbrev rare_calls_between : Measure → ℕ → ℕ → Type 0
+rare_calls_between = LiesBetween rare_calls rare_calls_masses 0
 
-pub rare_calls_interdistrict : rare_calls_holds (measure.InterdistrictUnit 1) 1000000 1000000
+pub rare_calls_interdistrict : rare_calls_between (measure.InterdistrictUnit 1) 1000000 1000000
 rare_calls_interdistrict = omega arith
 
-pub rare_calls_travel : rare_calls_holds (measure.TravelUnit 2) 299987 300000
+pub rare_calls_travel : rare_calls_between (measure.TravelUnit 2) 299987 300000
 rare_calls_travel = omega arith
 
 pub rare_calls_without :

@@ -9,7 +9,7 @@ use Rattle.hyper_model.specs.Groups.{AtomList}
 use Rattle.hyper_model.specs.declared.parts.PlanParts.{PlanParts}
 use Rattle.hyper_model.specs.Measures.{is_without}
 use Rattle.hyper_model.specs.Solutions.{IsSolution}
-use Rattle.hyper_model.proofs.Worked.{each_below, Holds, row_of_units}
+use Rattle.hyper_model.proofs.Worked.{each_below, LiesBetween, row_of_units}
 
 -- unit A is in its atom P, unit B in its atom Q; within an atom 60 seconds, between them 300
 abbrev two_districts : AtomList → AtomList → PlanParts
@@ -49,40 +49,40 @@ opposite_lists_solution = record {
   tail = refl;
 }
 
-abbrev opposite_lists_holds : Measure → ℕ → ℕ → Type 0
-opposite_lists_holds = Holds opposite_lists opposite_lists_masses 0
+abbrev opposite_lists_between : Measure → ℕ → ℕ → Type 0
+opposite_lists_between = LiesBetween opposite_lists opposite_lists_masses 0
 
-pub opposite_lists_loss : opposite_lists_holds measure.Loss 117647 117648
+pub opposite_lists_loss : opposite_lists_between measure.Loss 117647 117648
 opposite_lists_loss = omega arith
 
 pub opposite_lists_workload :
-    opposite_lists_holds (measure.Workload 0) 294117 294118
-    × opposite_lists_holds (measure.Workload 1) 294117 294118
+    opposite_lists_between (measure.Workload 0) 294117 294118
+    × opposite_lists_between (measure.Workload 1) 294117 294118
 opposite_lists_workload = omega arith
 
 pub opposite_lists_dispatch :
-    opposite_lists_holds (measure.Dispatch 0 0) 399999 400001
-    × opposite_lists_holds (measure.Dispatch 0 1) 99999 100001
-    × opposite_lists_holds (measure.Dispatch 1 0) 99999 100001
-    × opposite_lists_holds (measure.Dispatch 1 1) 399999 400001
+    opposite_lists_between (measure.Dispatch 0 0) 399999 400001
+    × opposite_lists_between (measure.Dispatch 0 1) 99999 100001
+    × opposite_lists_between (measure.Dispatch 1 0) 99999 100001
+    × opposite_lists_between (measure.Dispatch 1 1) 399999 400001
 opposite_lists_dispatch = omega arith
 
 pub opposite_lists_interdistrict :
-    opposite_lists_holds measure.Interdistrict 199999 200001
-    × opposite_lists_holds (measure.InterdistrictUnit 0) 199999 200001
-    × opposite_lists_holds (measure.InterdistrictUnit 1) 199999 200001
-    × opposite_lists_holds (measure.InterdistrictDistrict 0) 199999 200001
-    × opposite_lists_holds (measure.InterdistrictDistrict 1) 199999 200001
+    opposite_lists_between measure.Interdistrict 199999 200001
+    × opposite_lists_between (measure.InterdistrictUnit 0) 199999 200001
+    × opposite_lists_between (measure.InterdistrictUnit 1) 199999 200001
+    × opposite_lists_between (measure.InterdistrictDistrict 0) 199999 200001
+    × opposite_lists_between (measure.InterdistrictDistrict 1) 199999 200001
 opposite_lists_interdistrict = omega arith
 
 pub opposite_lists_travel :
-    opposite_lists_holds measure.Travel 107999 108001
-    × opposite_lists_holds (measure.TravelAtom 0) 107999 108001
-    × opposite_lists_holds (measure.TravelAtom 1) 107999 108001
-    × opposite_lists_holds (measure.TravelUnit 0) 107999 108001
-    × opposite_lists_holds (measure.TravelUnit 1) 107999 108001
-    × opposite_lists_holds (measure.TravelDistrict 0) 107999 108001
-    × opposite_lists_holds (measure.TravelDistrict 1) 107999 108001
+    opposite_lists_between measure.Travel 107999 108001
+    × opposite_lists_between (measure.TravelAtom 0) 107999 108001
+    × opposite_lists_between (measure.TravelAtom 1) 107999 108001
+    × opposite_lists_between (measure.TravelUnit 0) 107999 108001
+    × opposite_lists_between (measure.TravelUnit 1) 107999 108001
+    × opposite_lists_between (measure.TravelDistrict 0) 107999 108001
+    × opposite_lists_between (measure.TravelDistrict 1) 107999 108001
 opposite_lists_travel = omega arith
 
 pub opposite_lists_without :
@@ -107,40 +107,40 @@ common_group_solution = record {
   tail = refl;
 }
 
-abbrev common_group_holds : Measure → ℕ → ℕ → Type 0
-common_group_holds = Holds common_group common_group_masses 0
+abbrev common_group_between : Measure → ℕ → ℕ → Type 0
+common_group_between = LiesBetween common_group common_group_masses 0
 
-pub common_group_loss : common_group_holds measure.Loss 117647 117648
+pub common_group_loss : common_group_between measure.Loss 117647 117648
 common_group_loss = omega arith
 
 pub common_group_workload :
-    common_group_holds (measure.Workload 0) 294117 294118
-    × common_group_holds (measure.Workload 1) 294117 294118
+    common_group_between (measure.Workload 0) 294117 294118
+    × common_group_between (measure.Workload 1) 294117 294118
 common_group_workload = omega arith
 
 pub common_group_dispatch :
-    common_group_holds (measure.Dispatch 0 0) 249999 250001
-    × common_group_holds (measure.Dispatch 0 1) 249999 250001
-    × common_group_holds (measure.Dispatch 1 0) 249999 250001
-    × common_group_holds (measure.Dispatch 1 1) 249999 250001
+    common_group_between (measure.Dispatch 0 0) 249999 250001
+    × common_group_between (measure.Dispatch 0 1) 249999 250001
+    × common_group_between (measure.Dispatch 1 0) 249999 250001
+    × common_group_between (measure.Dispatch 1 1) 249999 250001
 common_group_dispatch = omega arith
 
 pub common_group_interdistrict :
-    common_group_holds measure.Interdistrict 499999 500001
-    × common_group_holds (measure.InterdistrictUnit 0) 499999 500001
-    × common_group_holds (measure.InterdistrictUnit 1) 499999 500001
-    × common_group_holds (measure.InterdistrictDistrict 0) 499999 500001
-    × common_group_holds (measure.InterdistrictDistrict 1) 499999 500001
+    common_group_between measure.Interdistrict 499999 500001
+    × common_group_between (measure.InterdistrictUnit 0) 499999 500001
+    × common_group_between (measure.InterdistrictUnit 1) 499999 500001
+    × common_group_between (measure.InterdistrictDistrict 0) 499999 500001
+    × common_group_between (measure.InterdistrictDistrict 1) 499999 500001
 common_group_interdistrict = omega arith
 
 pub common_group_travel :
-    common_group_holds measure.Travel 179999 180001
-    × common_group_holds (measure.TravelAtom 0) 179999 180001
-    × common_group_holds (measure.TravelAtom 1) 179999 180001
-    × common_group_holds (measure.TravelUnit 0) 179999 180001
-    × common_group_holds (measure.TravelUnit 1) 179999 180001
-    × common_group_holds (measure.TravelDistrict 0) 179999 180001
-    × common_group_holds (measure.TravelDistrict 1) 179999 180001
+    common_group_between measure.Travel 179999 180001
+    × common_group_between (measure.TravelAtom 0) 179999 180001
+    × common_group_between (measure.TravelAtom 1) 179999 180001
+    × common_group_between (measure.TravelUnit 0) 179999 180001
+    × common_group_between (measure.TravelUnit 1) 179999 180001
+    × common_group_between (measure.TravelDistrict 0) 179999 180001
+    × common_group_between (measure.TravelDistrict 1) 179999 180001
 common_group_travel = omega arith
 
 -- all calls come from one atom, of A's district, and ask for A first; unit B has no district
@@ -169,15 +169,15 @@ one_atom_solution = record {
   tail = refl;
 }
 
-abbrev one_atom_holds : Measure → ℕ → ℕ → Type 0
-one_atom_holds = Holds one_atom one_atom_masses 0
+abbrev one_atom_between : Measure → ℕ → ℕ → Type 0
+one_atom_between = LiesBetween one_atom one_atom_masses 0
 
-pub one_atom_loss : one_atom_holds measure.Loss 117647 117648
+pub one_atom_loss : one_atom_between measure.Loss 117647 117648
 one_atom_loss = omega arith
 
 pub one_atom_workload :
-    one_atom_holds (measure.Workload 0) 399999 400001
-    × one_atom_holds (measure.Workload 1) 188235 188236
+    one_atom_between (measure.Workload 0) 399999 400001
+    × one_atom_between (measure.Workload 1) 188235 188236
 one_atom_workload = omega arith
 
 pub one_atom_without :

@@ -1,13 +1,14 @@
 -- The laws of the model, for every accepted plan. That a solution exists is `HasSolution`.
 use Rattle.std.specs.Prelude.{◌≡◌, ◌≢◌, ℕ, ◌+◌, ◌*◌, ◌^◌, ◌<◌, ◌≤◌, ◌==◌, if◌then◌else◌, List}
-use Rattle.hyper_model.specs.declared.kinds.Line.{Line}
 use Rattle.hyper_model.specs.declared.kinds.Line.TheVariants as line
+use Rattle.hyper_model.specs.declared.kinds.Measure.{Measure}
 use Rattle.hyper_model.specs.declared.parts.PlanParts.{PlanParts}
 use Rattle.hyper_model.specs.Sums.{sum_below}
 use Rattle.hyper_model.specs.Plans.{units, service_of, all_calls, all_service, split}
 use Rattle.hyper_model.specs.Words.{words, is_busy, full_word}
 use Rattle.hyper_model.specs.Rates.{leaving, coming, IsBalancedWord}
 use Rattle.hyper_model.specs.Solutions.{mass_in, IsSolution}
+use Rattle.hyper_model.specs.Measures.{Ratio, measure_of}
 
 -- in every solution each word has a mass
 abbrev pub AreWordsPositive : PlanParts → Type 0
@@ -30,13 +31,23 @@ IsTailProportional p =
     (xs ys : List ℕ) (z t : ℕ) → IsSolution p xs z → IsSolution p ys t
     → (v : ℕ) → v < words p → mass_in xs v * t ≡ z * mass_in ys v
 
+-- equal ratios, by cross-multiplication
+abbrev pub IsSameRatio : Ratio → Ratio → Type 0
+IsSameRatio r s = r.numerator * s.denominator ≡ s.numerator * r.denominator
+
+-- and so each measure has one value, whichever solution it is taken from
+abbrev pub HaveOneValue : PlanParts → Type 0
+HaveOneValue p =
+    (xs ys : List ℕ) (z t : ℕ) → IsSolution p xs z → IsSolution p ys t
+    → (m : Measure) → IsSameRatio (measure_of p (mass_in xs) z m) (measure_of p (mass_in ys) t m)
+
 -- The fleet with places for `room` waiting calls: x(w) is the mass of the word w, and q(k) that of the state in
 -- which all units are busy and k calls wait. Each state has its balance.
 pub record SolvesQueue (p : PlanParts) (room : ℕ) (x q : ℕ → ℕ) : Type 0 where
   pub nobody_waits : q 0 ≡ x (full_word p)
   pub not_full : (w : ℕ) → w < words p → w ≢ full_word p → IsBalancedWord p x w
   pub full :
-    x (full_word p) * leaving p (full_word p) + split p * all_calls p * x (full_word p)
+      x (full_word p) * leaving p (full_word p) + split p * all_calls p * x (full_word p)
       ≡ coming p x (full_word p) + split p * all_service p * q 1
   pub between : (k : ℕ) → k + 1 < room
       → q (k + 1) * (all_calls p + all_service p) ≡ all_calls p * q k + all_service p * q (k + 2)

@@ -8,8 +8,8 @@ pub mod Words
 pub mod Rates
 pub mod Solutions
 pub mod Tables
-pub mod Laws
 pub mod Measures
+pub mod Laws
 pub mod Enclosures
 pub mod Acceptance
 pub mod TravelTimes

@@ -1,7 +1,7 @@
 //! The laws of the model, over its definitions alone (Larson 1974; Larson and Odoni, Urban Operations
 //! Research, chapter 5). Their calls answer nothing: each one's contract is a theorem on the plan.
 ghost use Rattle.hyper_model.specs.Solutions.{HasSolution};
-ghost use Rattle.hyper_model.specs.Laws.{AreWordsPositive, IsTailPositive, AreWordsProportional, IsTailProportional, TailLaw, LevelsLaw};
+ghost use Rattle.hyper_model.specs.Laws.{AreWordsPositive, IsTailPositive, AreWordsProportional, IsTailProportional, HaveOneValue, TailLaw, LevelsLaw};
 
 use crate::Plan;
 
@@ -22,10 +22,11 @@ pub fn law_positive(plan: &Plan)
     let _calls = plan.calls();
 }
 
-/// Any two solutions are proportional, so that every measure, a quotient of masses, has one value.
+/// Any two solutions are proportional, so that every measure, a ratio of masses, has one value.
 pub fn law_proportion(plan: &Plan)
     ensures words { AreWordsProportional plan.now }
     ensures waiting { IsTailProportional plan.now }
+    ensures measures { HaveOneValue plan.now }
 {
     let _calls = plan.calls();
 }

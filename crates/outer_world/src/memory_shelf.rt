@@ -1,4 +1,4 @@
-ghost use Rattle.std.specs.Prelude.{◌≡◌, ◌<◌, ◌≤◌, ◌++◌, ℕ, [], None, Some, false, min, length, take};
+ghost use Rattle.std.specs.Prelude.{◌≡◌, ◌<◌, ◌≤◌, ◌++◌, None, Some, false, min, length, take};
 ghost use Rattle.std.specs.Option.{option_map};
 ghost use Rattle.outer_world.specs.Shelf.{text_named};
 

@@ -1,4 +1,4 @@
-ghost use Rattle.std.specs.Prelude.{◌≡◌, ◌<◌, ◌≤◌, ◌++◌, [], None, Some, OnOk, OnErr};
+ghost use Rattle.std.specs.Prelude.{◌≡◌, ◌<◌, ◌≤◌, ◌++◌, [], None, Some, true, OnOk, OnErr};
 ghost use Rattle.outer_world.specs.Sink.{kept_bytes};
 
 use crate::planned_faults::PlannedFaults;
@@ -49,6 +49,8 @@ impl<'a> Sink for MemorySink<'a> {
     ghost faults = { λ s. s.faults.count };
 
     ghost last_count = { None };
+
+    ghost takes_memory = { true };
 
     fn write(&mut self, alloc: Global, piece: &[u8]) -> Writing {
         if self.faults.strikes() {

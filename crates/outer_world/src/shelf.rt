@@ -1,4 +1,4 @@
-ghost use Rattle.std.specs.Prelude.{◌≡◌, ◌≢◌, ◌<◌, ◌≤◌, ℕ, List, Bool, Option, None, true, length};
+ghost use Rattle.std.specs.Prelude.{◌≡◌, ◌≢◌, ◌<◌, ◌≤◌, ℕ, List, Bool, Option, true, length};
 ghost use Rattle.outer_world.specs.Faults.{Rose};
 ghost use Rattle.outer_world.specs.Shelf.{Opens, Reads};
 ghost use Rattle.outer_world.specs.declared.named_text.NamedText.{NamedText};

@@ -1,4 +1,4 @@
-ghost use Rattle.std.specs.Prelude.{◌≡◌, ◌≢◌, ◌<◌, ◌≤◌, ℕ, List, Option, length};
+ghost use Rattle.std.specs.Prelude.{◌≡◌, ◌≢◌, ◌<◌, ◌≤◌, ℕ, List, Bool, Option, true, length};
 ghost use Rattle.outer_world.specs.Faults.{Rose};
 ghost use Rattle.outer_world.specs.Sink.{Takes};
 
@@ -25,10 +25,14 @@ pub trait Sink {
     // Where the count of faults stops, if anywhere.
     ghost last_count: { Option ℕ };
 
+    // Whether a write takes memory, and so may find none.
+    ghost takes_memory: { Bool };
+
     /// Takes bytes from the front of the piece.
     fn write(&mut self, alloc: Global, piece: &[u8]) -> Writing
         requires { 0 < length piece.now }
         ensures takes { Takes (taken self.old) (taken self.new) piece.now result }
+        ensures no_memory { result ≡ Writing.NoMemory → takes_memory ≡ true }
 
         ensures later { faults self.old ≤ faults self.new }
         ensures failed { result ≡ Writing.Failed

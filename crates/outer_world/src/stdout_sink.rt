@@ -1,4 +1,4 @@
-ghost use Rattle.std.specs.Prelude.{◌≡◌, ◌-◌, ◌^◌, None, Some};
+ghost use Rattle.std.specs.Prelude.{◌≡◌, ◌-◌, ◌^◌, None, Some, false};
 
 use crate::sink::{Sink, Writing};
 use std::alloc::Global;
@@ -28,6 +28,8 @@ impl<'a, P: Print> Sink for StdoutSink<'a, P> {
     ghost faults = { λ s. s.faults };
 
     ghost last_count = { Some (2 ^ 64 - 1) };
+
+    ghost takes_memory = { false };
 
     fn write(&mut self, _alloc: Global, piece: &[u8]) -> Writing {
         match self.output.write_some(piece) {

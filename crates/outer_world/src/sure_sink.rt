@@ -1,4 +1,4 @@
-ghost use Rattle.std.specs.Prelude.{◌≡◌, ◌<◌, ◌≤◌, [], None, Some};
+ghost use Rattle.std.specs.Prelude.{◌≡◌, ◌<◌, ◌≤◌, [], None, Some, true};
 ghost use Rattle.outer_world.specs.Sink.{kept_bytes};
 
 use crate::memory_sink::{keep, shown};
@@ -39,6 +39,8 @@ impl Sink for SureSink {
     ghost faults = { λ _. 0 };
 
     ghost last_count = { None };
+
+    ghost takes_memory = { true };
 
     fn write(&mut self, alloc: Global, piece: &[u8]) -> Writing {
         let count = self.step.min(piece.len());

@@ -11,7 +11,7 @@ returns c =
     let later = drop 1 row.begins in
     let units = list_of c.args.lists.now c.args.atom in
     let size : length later ≡ length units - 1 =
-        omega (arith, length-drop 1 row.begins, c.list-list.ensures.one_each, c.later_begins.ensures.one_each) in
+    omega (arith, length-drop 1 row.begins, c.list-list.ensures.one_each, c.later_begins.ensures.one_each) in
     c.all_begin.ensures
     ∙ ap (λ (bs : List Bool). list_all (λ b. b) bs) (c.later_begins.ensures.begins ∙ sym (take-length later))
     ∙ ap (λ (n : ℕ). list_all (λ b. b) (take n later)) size
