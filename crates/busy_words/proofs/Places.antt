@@ -1,6 +1,5 @@
 -- Sums over the places of a plan's weights are sums over its words, and the mass that waits.
-use Rattle.std.proofs.Common.{◌≡◌, ℕ, zero, suc, ◌+◌, ◌-◌, ◌*◌, ◌/◌, ◌^◌, ◌<◌, ◌≤◌, Bool, true, false, cond, eqb, leb, List, [], ◌∷◌, ◌++◌, length, map, slice_index, refl, sym, ap, subst, ◌∙◌, true≢false, arith, length-append}
-use Rattle.std.proofs.lemmas.Bool.{cases_lt}
+use Rattle.std.proofs.Common.{◌≡◌, ℕ, suc, ◌+◌, ◌-◌, ◌*◌, ◌^◌, ◌<◌, ◌≤◌, Bool, true, false, cond, leb, List, [], ◌∷◌, ◌++◌, length, map, slice_index, refl, sym, ap, ◌∙◌, arith, length-append}
 use Rattle.std.proofs.lemmas.Bool.Decides.{nat_tests}
 use Rattle.std.proofs.lemmas.List.{get_or_append_left, get_or-map, get_or_default, length-map}
 use Rattle.std.proofs.Math.Nat.{div-le_self}
@@ -10,17 +9,17 @@ use Rattle.hyper_model.specs.declared.kinds.Line.{Line}
 use Rattle.hyper_model.specs.declared.kinds.Line.TheVariants as line
 use Rattle.hyper_model.specs.declared.parts.PlanParts.{PlanParts}
 use Rattle.hyper_model.specs.Sums.{sum_below}
-use Rattle.hyper_model.specs.Plans.{units, atoms, split, IsAccepted}
-use Rattle.hyper_model.specs.Words.{words, full_word, is_busy, takes, taker_count, portion}
-use Rattle.hyper_model.specs.Solutions.{mass_in, IsTail, IsSolution}
+use Rattle.hyper_model.specs.Plans.{units, split}
+use Rattle.hyper_model.specs.Words.{words, full_word, takes, taker_count, portion}
+use Rattle.hyper_model.specs.Solutions.{mass_in, IsTail}
 use Rattle.hyper_model.specs.Measures.{mass, base_on, base, taken_mass}
-use Rattle.hyper_model.proofs.Sums.{on_test, sum-same, sum-add, sum-scaled, sum_none}
+use Rattle.hyper_model.proofs.Sums.{sum-same, sum-add, sum-scaled, sum_none}
 use Rattle.hyper_model.proofs.Bits.{full_busy, words_full}
 use Rattle.hyper_model.proofs.Relabel.{sum_relabelled}
 use Rattle.hyper_model.proofs.Takers.{not_taken}
 use Rattle.hyper_model.proofs.PlanLaws.{full_below}
 use Rattle.hyper_model.proofs.Masses.{all_words}
-use Rattle.busy_words.specs.Order.{WordOrder, IsInOrder, word_at, word_or_full}
+use Rattle.busy_words.specs.Order.{WordOrder, word_at, word_or_full}
 use Rattle.busy_words.specs.Parts.{weighed_numbers}
 use Rattle.busy_words.specs.WeightParts.{places_on, places, base_places_on, base_places, IsOrderOf, tail_masses, masses_by_place, taken_shares, other_shares}
 use Rattle.busy_words.proofs.Ordering.{words_inverse, last_word}

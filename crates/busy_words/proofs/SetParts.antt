@@ -1,12 +1,12 @@
 -- Where weights enclose numbers up to one common factor, the part of some of them encloses the share that their
 -- numbers have in all.
-use Rattle.std.proofs.Common.{◌≡◌, ℕ, zero, suc, ◌+◌, ◌*◌, ◌<◌, ◌≤◌, Bool, true, false, not, cond, refl, sym, ap, ◌∙◌, arith}
+use Rattle.std.proofs.Common.{◌≡◌, ℕ, ◌+◌, ◌*◌, ◌<◌, ◌≤◌, Bool, not, cond, refl, sym, ap, ◌∙◌, arith}
 use Rattle.hyper_model.specs.Sums.{sum_below}
 use Rattle.hyper_model.proofs.Sums.{sum-same, sum-scaled, sum_split, positive_place, cond_scaled}
-use Rattle.fixed_interval.specs.Ends.{Ends, Encloses, scaled_ends, share_ends}
+use Rattle.fixed_interval.specs.Ends.{Ends, Encloses, scaled_ends}
 use Rattle.fixed_interval.proofs.Rounding.{encloses_same, encloses_scaled, encloses_ratio, encloses_share}
 use Rattle.fixed_interval.proofs.Scaled.{Holds, AreScaled, scaled_by}
-use Rattle.busy_words.specs.Algebra.{total_ends, where_ends}
+use Rattle.busy_words.specs.Algebra.{where_ends}
 use Rattle.busy_words.specs.Parts.{weighed, weighed_numbers, divided, part, set_ends, set_part}
 use Rattle.busy_words.proofs.Algebra.{encloses_total, encloses_where}
 

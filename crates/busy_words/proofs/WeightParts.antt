@@ -1,24 +1,32 @@
 -- What the parts of a plan's weights enclose, for every solution that the weights enclose.
-use Rattle.std.proofs.Common.{◌≡◌, ℕ, ◌+◌, ◌*◌, ◌^◌, ◌<◌, ◌≤◌, true, cond, leb, List, length, slice_index, refl, sym, ap, subst, ◌∙◌, arith}
+use Rattle.std.proofs.Common.{◌≡◌, ℕ, ◌+◌, ◌*◌, ◌^◌, ◌<◌, ◌≤◌, cond, leb, List, length, slice_index, ap, subst, ◌∙◌, arith}
 use Rattle.hyper_model.specs.declared.kinds.Line.{Line}
 use Rattle.hyper_model.specs.declared.kinds.Line.TheVariants as line
 use Rattle.hyper_model.specs.declared.parts.PlanParts.{PlanParts}
 use Rattle.hyper_model.specs.Sums.{sum_below}
-use Rattle.hyper_model.specs.Plans.{units, atoms, split, IsAccepted}
+use Rattle.hyper_model.specs.Plans.{units, split, IsAccepted}
 use Rattle.hyper_model.specs.Words.{words, full_word, is_busy}
-use Rattle.hyper_model.specs.Solutions.{mass_in, IsSolution}
+use Rattle.hyper_model.specs.Solutions.{mass_in}
 use Rattle.hyper_model.specs.Measures.{mass, base, taken_mass}
 use Rattle.hyper_model.proofs.Bits.{full_busy, words_full}
 use Rattle.hyper_model.proofs.Takers.{split_positive}
 use Rattle.hyper_model.proofs.Masses.{mass_positive, base_positive}
 use Rattle.fixed_interval.specs.Ends.{Ends, Encloses}
-use Rattle.fixed_interval.specs.WeightList.{EnclosesAll, ends_at}
+use Rattle.fixed_interval.specs.WeightList.{ends_at}
 use Rattle.fixed_interval.proofs.Scaled.{Holds, holds_of_list}
-use Rattle.busy_words.specs.Order.{WordOrder, word_or_full}
+use Rattle.busy_words.specs.Order.{WordOrder, IsInOrder, word_or_full}
 use Rattle.busy_words.specs.Parts.{weighed_numbers}
 use Rattle.busy_words.specs.WeightParts.{places_on, places, base_places_on, base_places, IsOrderOf, masses_by_place, EnclosesSolution, busy_part, full_part, tail_part, taken_part, taken_shares, other_shares}
 use Rattle.busy_words.proofs.SetParts.{holds_fewer, part_encloses, set_part_encloses}
 use Rattle.busy_words.proofs.Places as places_of
+
+-- an order of so many units as the plan has
+pub order_fits : (p : PlanParts) (order : WordOrder) → order.units ≡ units p → IsInOrder order.units order.words
+    → IsOrderOf p order
+order_fits p order same ordered = record {
+  same_units = same;
+  ordered = subst (λ n. IsInOrder n order.words) same ordered;
+}
 
 base_fewer : (p : PlanParts) → base_places p ≤ places p
 base_fewer p = on_line p.line

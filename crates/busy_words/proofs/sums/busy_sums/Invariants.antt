@@ -1,4 +1,4 @@
-use Rattle.std.proofs.Common.{◌≡◌, ℕ, ◌*◌, ◌^◌, ◌≤◌, not}
+use Rattle.std.proofs.Common.{◌≡◌, ◌*◌, ◌^◌, ◌≤◌, not}
 use Rattle.fixed_interval.specs.WeightList.{ends_at}
 use Rattle.hyper_model.specs.Words.{is_busy}
 use Rattle.busy_words.specs.Order.{word_or_full}

@@ -1,5 +1,5 @@
-use Rattle.std.proofs.Common.{◌≡◌, ℕ, ◌^◌, length, leb, not, ap, ap₂, ◌∙◌, arith}
-use Rattle.fixed_interval.specs.Ends.{Ends, share_ends}
+use Rattle.std.proofs.Common.{◌≡◌, ◌^◌, length, leb, not, ap, ap₂, ◌∙◌, arith}
+use Rattle.fixed_interval.specs.Ends.{share_ends}
 use Rattle.fixed_interval.specs.WeightList.{ends_at}
 use Rattle.busy_words.specs.Parts.{set_ends}
 use Rattle.busy_words.proofs.sums.part_from.Goals as goal

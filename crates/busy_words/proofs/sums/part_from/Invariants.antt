@@ -1,4 +1,4 @@
-use Rattle.std.proofs.Common.{◌≡◌, ℕ, ◌*◌, ◌^◌, ◌≤◌, not, leb}
+use Rattle.std.proofs.Common.{◌≡◌, ◌*◌, ◌^◌, ◌≤◌, not, leb}
 use Rattle.fixed_interval.specs.WeightList.{ends_at}
 use Rattle.busy_words.specs.Parts.{set_ends}
 use Rattle.busy_words.proofs.sums.part_from.Given as goal

@@ -1,7 +1,6 @@
-use Rattle.std.proofs.Common.{◌≡◌, ℕ, ◌-◌, ◌^◌, ◌+◌, ◌*◌, List, length, leb, ap, ap₂, sym, subst, ◌∙◌}
-use Rattle.fixed_interval.specs.Ends.{Ends, Encloses}
+use Rattle.std.proofs.Common.{◌^◌, ◌*◌, leb, ap₂, sym, subst, ◌∙◌}
+use Rattle.fixed_interval.specs.Ends.{Encloses}
 use Rattle.fixed_interval.specs.WeightList.{ends_at}
-use Rattle.hyper_model.specs.Words.{full_word}
 use Rattle.hyper_model.specs.Solutions.{mass_in}
 use Rattle.hyper_model.specs.Measures.{mass}
 use Rattle.busy_words.specs.Parts.{set_part}
