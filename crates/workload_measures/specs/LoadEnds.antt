@@ -1,5 +1,5 @@
--- The exact ends of the measures of calls and of units, from the weights of a plan. Each is one formula over a
--- part of the weights: its low end is rounded down once, and its high end rounded up once.
+-- The exact ends of the measures of calls and of units, from the weights of a plan. Each measure is one part of the
+-- weights times a fraction, and is rounded outward a single time.
 use Rattle.std.specs.Prelude.{ℕ, ◌-◌, ◌*◌, ◌^◌, List, map}
 use Rattle.std.specs.List.{range_with_len}
 use Rattle.fixed_interval.specs.Ends.{Ends, outward_ends, ratio_ends}
