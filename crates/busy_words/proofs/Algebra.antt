@@ -1,5 +1,6 @@
 -- Sums of intervals enclose sums of numbers, all over one denominator.
 use Rattle.std.proofs.Common.{◌≡◌, ℕ, zero, suc, ◌+◌, ◌*◌, ◌<◌, ◌≤◌, Bool, true, false, cond, refl, arith}
+use Rattle.std.proofs.lemmas.Nat.{mul-le}
 use Rattle.hyper_model.specs.Sums.{sum_below}
 use Rattle.fixed_interval.specs.Ends.{Ends, Encloses, between, scaled_ends}
 use Rattle.fixed_interval.proofs.Rounding.{encloses_scaled}
@@ -26,3 +27,9 @@ encloses_total (suc n) a x den h =
 pub total_more : (a : ℕ → Ends) (n next : ℕ) (total item sum : Ends) → next ≡ suc n → total ≡ total_ends n a
     → item ≡ a n → sum ≡ between (total.lo + item.lo) (total.hi + item.hi) → sum ≡ total_ends next a
 total_more a n next total item sum one_more is_total is_item is_sum = rw (one_more, is_sum, is_total, is_item) refl
+
+-- and so many times one more interval
+pub room_more : (n next times most high sum item each : ℕ) → next ≡ suc n → sum ≡ high + times * item
+    → high ≤ n * (most * each) → times ≤ most → item ≤ each → sum ≤ next * (most * each)
+room_more n next times most high sum item each one_more is_sum room few small =
+    rw (one_more, is_sum) (omega (arith, room, mul-le times item most each few small))

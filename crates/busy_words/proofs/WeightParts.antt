@@ -14,11 +14,19 @@ use Rattle.hyper_model.proofs.Masses.{mass_positive, base_positive}
 use Rattle.fixed_interval.specs.Ends.{Ends, Encloses}
 use Rattle.fixed_interval.specs.WeightList.{EnclosesAll, ends_at}
 use Rattle.fixed_interval.proofs.Scaled.{Holds, holds_of_list}
-use Rattle.busy_words.specs.Order.{WordOrder, word_or_full}
+use Rattle.busy_words.specs.Order.{WordOrder, IsInOrder, word_or_full}
 use Rattle.busy_words.specs.Parts.{weighed_numbers}
 use Rattle.busy_words.specs.WeightParts.{places_on, places, base_places_on, base_places, IsOrderOf, masses_by_place, EnclosesSolution, busy_part, full_part, tail_part, taken_part, taken_shares, other_shares}
 use Rattle.busy_words.proofs.SetParts.{holds_fewer, part_encloses, set_part_encloses}
 use Rattle.busy_words.proofs.Places as places_of
+
+-- an order of so many units as the plan has
+pub order_fits : (p : PlanParts) (order : WordOrder) → order.units ≡ units p → IsInOrder order.units order.words
+    → IsOrderOf p order
+order_fits p order same ordered = record {
+  same_units = same;
+  ordered = subst (λ n. IsInOrder n order.words) same ordered;
+}
 
 base_fewer : (p : PlanParts) → base_places p ≤ places p
 base_fewer p = on_line p.line

@@ -1,19 +1,20 @@
 ghost use Rattle.std.specs.Prelude.{◌≡◌, ℕ, ◌+◌, ◌*◌, ◌^◌, ◌<◌, ◌≤◌, List, not, nat_le, length};
 ghost use Rattle.fixed_interval.specs.Ends.{Encloses};
 ghost use Rattle.fixed_interval.specs.WeightList.{ends_at};
-ghost use Rattle.hyper_model.specs.Plans.{units};
+ghost use Rattle.hyper_model.specs.Plans.{units, atoms, split, IsAccepted};
 ghost use Rattle.hyper_model.specs.Sums.{sum_below};
 ghost use Rattle.hyper_model.specs.Words.{is_busy as is_busy_in, full_word, words};
 ghost use Rattle.hyper_model.specs.Solutions.{mass_in};
-ghost use Rattle.hyper_model.specs.Measures.{mass};
+ghost use Rattle.hyper_model.specs.Measures.{mass, base, taken_mass};
 ghost use Rattle.busy_words.specs.Order.{WordOrder, word_or_full};
-ghost use Rattle.busy_words.specs.Parts.{set_ends, set_part};
-ghost use Rattle.busy_words.specs.WeightParts.{EnclosesSolution, IsOrderOf, busy_mass, busy_part as busy_part_of, full_part as full_part_of, places, tail_part as tail_part_of};
+ghost use Rattle.busy_words.specs.Parts.{set_ends, set_part, weighed};
+ghost use Rattle.busy_words.specs.WeightParts.{EnclosesSolution, IsOrderOf, base_places, busy_mass, busy_part as busy_part_of, full_part as full_part_of, other_shares, places, tail_part as tail_part_of, taken_part as taken_part_of, taken_shares};
 
+use crate::dispatch::taken_share;
 use crate::orders::Order;
 use crate::words::is_busy;
 use fixed_interval::{Iv, Weights, Wide};
-use hyper_model::Plan;
+use hyper_model::{Line, Plan};
 
 /// The part of the states in which all units are busy, those in which calls wait among them: the chance that a
 /// call is lost or has to wait. In units of `1 / 2^62`.
@@ -51,10 +52,39 @@ pub fn busy_part(plan: &Plan, order: &Order, weights: &Weights, unit: u8) -> Iv
     inside.part_of(rest)
 }
 
+/// The part of the answered calls of this atom that go to this unit at once, in units of `1 / 2^62`.
+///
+/// Where calls are lost, it is taken among the states in which a unit is free, else among all states.
+pub fn taken_part(plan: &Plan, order: &Order, weights: &Weights, unit: u8, atom: usize) -> Iv
+    requires order { IsOrderOf plan.now order.now }
+    requires one_each { length weights.now.items ≡ places plan.now }
+    requires unit { unit < units plan.now }
+    requires atom { atom < atoms plan.now }
+    ensures ends { result ≡ taken_part_of plan.now order.now (ends_at weights.now.items) unit atom }
+    ensures encloses { (xs : List ℕ) (z : ℕ) → EnclosesSolution plan.now order.now weights.now.items xs z
+        → Encloses result (2 ^ 62 * taken_mass plan.now (mass_in xs) unit atom)
+        (split plan.now * base plan.now (mass_in xs) z) }
+{
+    let (inside, rest) = taken_sums(plan, order, weights, unit, atom);
+    let split = split_of(plan);
+    inside.ratio(1, split).part_of(rest.ratio(1, split))
+}
+
+// The plan's factor of all rates; and the plan is accepted.
+fn split_of(plan: &Plan) -> u64
+    ensures split { result ≡ split plan.now }
+    ensures least { 1 ≤ result }
+    ensures accepted { IsAccepted plan.now }
+{
+    let _calls = plan.calls();
+    u64::from(plan.split())
+}
+
 // How many words the plan has.
 fn words_of(plan: &Plan) -> usize
     ensures words { result ≡ words plan.now }
     ensures least { 1 ≤ result }
+    ensures most { result ≤ 4096 }
 {
     1 << plan.units()
 }
@@ -97,4 +127,42 @@ fn busy_sums(order: &Order, weights: &Weights, unit: u8) -> (Wide, Wide)
         }
     }
     (inside, rest)
+}
+
+// The sum of the weights of the states in which calls are answered, each times the shares of the atom's calls
+// that go to the unit, and each times the other shares.
+fn taken_sums(plan: &Plan, order: &Order, weights: &Weights, unit: u8, atom: usize) -> (Wide, Wide)
+    requires order { IsOrderOf plan.now order.now }
+    requires one_each { length weights.now.items ≡ places plan.now }
+    requires unit { unit < units plan.now }
+    requires atom { atom < atoms plan.now }
+    ensures inside { result.0 ≡ weighed (base_places plan.now)
+        (λ i. taken_shares plan.now unit atom (word_or_full order.now i)) (ends_at weights.now.items) }
+    ensures rest { result.1 ≡ weighed (base_places plan.now)
+        (λ i. other_shares plan.now unit atom (word_or_full order.now i)) (ends_at weights.now.items) }
+    ensures most { result.0.hi ≤ 4097 * (split plan.now * 2 ^ 52) }
+    ensures most_rest { result.1.hi ≤ 4097 * (split plan.now * 2 ^ 52) }
+{
+    let split = plan.split();
+    let mut inside = Wide::new(0, 0);
+    let mut rest = Wide::new(0, 0);
+    for place in 0..base_places_of(plan) {
+        let weight = weights.get(place).wide();
+        let taken = taken_share(plan, atom, order.word_or_full(place), unit);
+        inside = inside.plus(weight.scaled(u64::from(taken)));
+        rest = rest.plus(weight.scaled(u64::from(split - taken)));
+    }
+    (inside, rest)
+}
+
+// How many weights are of states in which a call that comes is answered.
+fn base_places_of(plan: &Plan) -> usize
+    ensures places { result ≡ base_places plan.now }
+    ensures within { result ≤ places plan.now }
+    ensures most { result ≤ 4097 }
+{
+    match plan.line() {
+        Line::Zero => words_of(plan) - 1,
+        Line::Infinite => words_of(plan) + 1,
+    }
 }

@@ -14,7 +14,7 @@ pub is_busy-requires : goal.is_busy-requires
 is_busy-requires c =
     omega (
       arith,
-      c.unit-unit.ensures,
+      c.unit-member.ensures,
       c.units-place-end.ensures.most,
       c.units-place-end.ensures.units,
       member_below c.args.lists.now c.units-place-end.ensures.regular c.args.atom c.loop-place.place c.requires.atom
@@ -25,7 +25,7 @@ pub overflow_shl-takers : goal.overflow_shl-takers
 overflow_shl-takers c =
     omega (
       arith,
-      c.unit-unit.ensures,
+      c.unit-member.ensures,
       c.units-place-end.ensures.most,
       c.units-place-end.ensures.units,
       member_below c.args.lists.now c.units-place-end.ensures.regular c.args.atom c.loop-place.place c.requires.atom
@@ -63,32 +63,32 @@ loop-place-preserved c =
       | else-takers-ne0-via-then-takers-ne0+else-begins w ↦ inr (sym w.if-begins.ensures)
       | else-takers-ne0-via-else-takers-ne0 w ↦ inl w.if-takers-ne0.false
     ]) in
-    let unit_in : c.unit-unit.result < lists.units =
+    let unit_in : c.unit-member.result < lists.units =
     omega (
       arith,
-      c.unit-unit.ensures,
+      c.unit-member.ensures,
       member_below lists regular c.args.atom c.loop-place.place c.requires.atom place c.requires.grouped,
     ) in
     elim c.if-not-is_busy.branch [
       | then-not-is_busy w ↦
-          let small : c.unit-unit.result < 16 =
+          let small : c.unit-member.result < 16 =
           omega (arith, c.units-place-end.ensures.most, c.units-place-end.ensures.units) in
-          let bit : 1 * 2 ^ c.unit-unit.result % 65536 ≡ 2 ^ c.unit-unit.result = omega (arith, pow-lt small) in
-          let more : c.if-not-is_busy.takers ≡ bit_or c.loop-place.takers (2 ^ c.unit-unit.result) =
+          let bit : 1 * 2 ^ c.unit-member.result % 65536 ≡ 2 ^ c.unit-member.result = omega (arith, pow-lt small) in
+          let more : c.if-not-is_busy.takers ≡ bit_or c.loop-place.takers (2 ^ c.unit-member.result) =
           w.takers-is ∙ ap (bit_or c.loop-place.takers) bit in
           record {
             carried = rw next
-                (search_free lists c.args.atom c.args.word c.loop-place.place c.loop-place.takers c.unit-unit.result
-                c.if-not-is_busy.takers inside c.unit-unit.ensures go
+                (search_free lists c.args.atom c.args.word c.loop-place.place c.loop-place.takers c.unit-member.result
+                c.if-not-is_busy.takers inside c.unit-member.ensures go
                 (ap not (sym c.is_busy.ensures ∙ w.if-not-is_busy.true)) more c.loop-place.invariant.carried);
             below = rw more
-                (or_lt lists.units c.loop-place.takers (2 ^ c.unit-unit.result) c.loop-place.invariant.below
+                (or_lt lists.units c.loop-place.takers (2 ^ c.unit-member.result) c.loop-place.invariant.below
                 (pow-lt unit_in));
           }
       | else-not-is_busy w ↦ record {
         carried = rw (next, w.takers-is)
-            (search_busy lists c.args.atom c.args.word c.loop-place.place c.loop-place.takers c.unit-unit.result inside
-            c.unit-unit.ensures go (ap not (sym c.is_busy.ensures ∙ w.if-not-is_busy.false))
+            (search_busy lists c.args.atom c.args.word c.loop-place.place c.loop-place.takers c.unit-member.result inside
+            c.unit-member.ensures go (ap not (sym c.is_busy.ensures ∙ w.if-not-is_busy.false))
             c.loop-place.invariant.carried);
         below = rw w.takers-is c.loop-place.invariant.below;
       }
