@@ -84,7 +84,11 @@ interdistrict_of p parts =
     region_share p parts
     ∷ (map (unit_share p parts) (range_with_len 0 (units p)) ++ map (district_share p parts) (range_with_len 0 (units p)))
 
--- for every solution that has these parts, each measure lies between its ends, or has no value and no ends
+-- for every solution that has these parts, the measure lies between its ends, or has no value and no ends
+abbrev pub IsAlwaysContained : PlanParts → PartList → Enclosed → Type 0
+IsAlwaysContained p parts e = (xs : List ℕ) (z : ℕ) → HasParts p xs z parts → IsContained p (mass_in xs) z e
+
+-- so do all measures of a list
 abbrev pub AreContained : PlanParts → PartList → List Enclosed → Type 0
 AreContained p parts list =
     (xs : List ℕ) (z : ℕ) → HasParts p xs z parts → All (IsContained p (mass_in xs) z) list
