@@ -12,15 +12,15 @@ abbrev pub state_after : ℕ → ℕ → ℕ
 state_after number zero = number
 state_after number (suc draws) = next_state (state_after number draws)
 
--- what a draw below a bound gives, once it has moved the state: its upper half, divided by the bound, leaves it
+-- what a draw below a bound gives, once it has moved the state: the upper half of it, modulo the bound
 abbrev pub drawn_at : ℕ → ℕ → ℕ
 drawn_at state bound = state / 65536 % bound
 
--- the draw that comes as this one, from 1 on
+-- the nth draw, from 1 on
 abbrev pub draw : ℕ → ℕ → ℕ → ℕ
 draw number nth bound = drawn_at (state_after number nth) bound
 
--- each atom takes three draws, in this order
+-- each atom takes three draws, in this order; places are counted from 0
 abbrev pub drawn_atom : ℕ → ℕ → DrawnAtom
 drawn_atom number place = record {
   place = place;

@@ -11,7 +11,7 @@ unit_name n = codes "U" ++ decimal n
 abbrev pub atom_name : ℕ → List ℕ
 atom_name j = codes "A" ++ decimal j
 
--- places are counted from 0
+-- the first atom has the place 0
 abbrev pub name_of : DrawnAtom → List ℕ
 name_of atom = atom_name (atom.place + 1)
 
@@ -55,11 +55,11 @@ travel_line from to =
     ++ number_field (travel_seconds from to)
     ++ codes "\n"
 
--- so many thousandths of its free time a unit waits at an atom
+-- of its free time, a unit spends so many thousandths at an atom
 abbrev pub at_line : ℕ → ℕ → ℕ → List ℕ
 at_line n j thousandths =
     codes "at," ++ unit_name n ++ codes "," ++ atom_name j ++ number_field thousandths ++ codes "\n"
 
--- a unit waits at the first two atoms of its district
+-- a unit spends it at the first two atoms of its district
 abbrev pub location_lines : ℕ → ℕ → List ℕ
 location_lines units n = at_line n n 700 ++ at_line n (n + units) 300

@@ -61,7 +61,7 @@ fn seconds_between(from: &DrawnAtom, to: &DrawnAtom) -> u64
     60 + (across + along) / 10
 }
 
-/// Puts the records of where unit `n` waits behind the text.
+/// Puts the records of where unit `n` spends its free time behind the text.
 pub(crate) fn push_locations(text: &mut Vec<u8>, units: u64, n: u64) -> Result<(), AllocError>
     requires units { units < 1000 }
     requires unit { n < 1000 }

@@ -64,7 +64,7 @@ fn push_travel_from(
     Ok(())
 }
 
-/// Puts the records of where the units wait behind the text.
+/// Puts the records of where the units spend their free time behind the text.
 pub(crate) fn push_all_locations(text: &mut Vec<u8>, units: u64) -> Result<(), AllocError>
     requires { units < 999 }
     ensures { IfOk result (λ _. text.new.items ≡ text.old.items ++ all_location_lines units) }
