@@ -1,9 +1,9 @@
 -- The ends of each measure contain it, for every solution of the plan whose masses the weights enclose.
-use Rattle.std.proofs.Common.{◌≡◌, ℕ, zero, suc, ◌+◌, ◌-◌, ◌*◌, ◌^◌, ◌<◌, ◌≤◌, All, List, [], ◌∷◌, map, refl, sym, ap, subst, length, arith}
+use Rattle.std.proofs.Common.{◌≡◌, ℕ, ◌+◌, ◌-◌, ◌*◌, ◌^◌, ◌<◌, All, List, map, refl, sym, ap, subst, arith}
 use Rattle.std.specs.List.{range_with_len}
 use Rattle.std.proofs.lemmas.List.FromFn.{length-map-range_with_len, get_or-map-range_with_len}
 use Rattle.std.proofs.Math.Nat.{mul-pos}
-use Rattle.fixed_interval.specs.Ends.{Ends, Encloses, outward_ends, ratio_ends}
+use Rattle.fixed_interval.specs.Ends.{Ends, Encloses, ratio_ends}
 use Rattle.fixed_interval.specs.WeightList.{ends_at}
 use Rattle.fixed_interval.proofs.Rounding.{encloses_same, encloses_outward, encloses_ratio}
 use Rattle.hyper_model.specs.declared.kinds.Line.{Line}
