@@ -1,0 +1,3 @@
+pub mod Elimination
+pub mod Levels
+pub mod Weights

@@ -1,0 +1,2 @@
+//! Rates between the states of a chain, in intervals.
+#![tactic(auto)]
