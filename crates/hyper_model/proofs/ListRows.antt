@@ -15,31 +15,32 @@ row_seen n rows atom r h e = lists.get_or-map (used_part n) rows atom r no_row h
 pub member_written : (n : ℕ) (rows : List ListRow) (atom place unit : ℕ) (r : ListRow) → atom < length rows
     → place < n → r ≡ get_or rows atom r
     → lists_seen n (set rows atom (record { members = set r.members place unit; begins = r.begins }))
-        ≡ with_member (lists_seen n rows) atom place unit
+    ≡ with_member (lists_seen n rows) atom place unit
 member_written n rows atom place unit r h small e =
     let seen : row_of (lists_seen n rows) atom ≡ used_part n r = row_seen n rows atom r h e in
     let written : take n (set r.members place unit) ≡ set (take n r.members) place unit =
-        take-set-lt n r.members place unit small in
+    take-set-lt n r.members place unit small in
     rw (seen, map-set (used_part n) rows atom _, written) refl
 
 pub join_written : (n : ℕ) (rows : List ListRow) (atom place : ℕ) (r : ListRow) → atom < length rows
     → place < n → r ≡ get_or rows atom r
     → lists_seen n (set rows atom (record { members = r.members; begins = set r.begins place false }))
-        ≡ with_joined (lists_seen n rows) atom place
+    ≡ with_joined (lists_seen n rows) atom place
 join_written n rows atom place r h small e =
     let seen : row_of (lists_seen n rows) atom ≡ used_part n r = row_seen n rows atom r h e in
     let written : take n (set r.begins place false) ≡ set (take n r.begins) place false =
-        take-set-lt n r.begins place false small in
+    take-set-lt n r.begins place false small in
     rw (seen, map-set (used_part n) rows atom _, written) refl
 
 pub seen_regular : (n : ℕ) (rows : List ListRow) → IsRoomy n rows → IsRegular (lists_seen n rows)
 seen_regular n rows roomy = record {
-    members = All-map (λ (row : AtomList). length row.members ≡ n) (used_part n) rows
-        (All-weaker (λ (row : ListRow). length row.members ≡ 12) (λ row. length (take n row.members) ≡ n)
-          (λ row e. length-take-le n row.members (omega (arith, e, roomy.few_units))) rows roomy.members);
-    begins = All-map (λ (row : AtomList). length row.begins ≡ n) (used_part n) rows
-        (All-weaker (λ (row : ListRow). length row.begins ≡ 12) (λ row. length (take n row.begins) ≡ n)
-          (λ row e. length-take-le n row.begins (omega (arith, e, roomy.few_units))) rows roomy.begins) }
+  members = All-map (λ (row : AtomList). length row.members ≡ n) (used_part n) rows
+      (All-weaker (λ (row : ListRow). length row.members ≡ 12) (λ row. length (take n row.members) ≡ n)
+      (λ row e. length-take-le n row.members (omega (arith, e, roomy.few_units))) rows roomy.members);
+  begins = All-map (λ (row : AtomList). length row.begins ≡ n) (used_part n) rows
+      (All-weaker (λ (row : ListRow). length row.begins ≡ 12) (λ row. length (take n row.begins) ≡ n)
+      (λ row e. length-take-le n row.begins (omega (arith, e, roomy.few_units))) rows roomy.begins);
+}
 
 pub map_replicate : {A B : Type 0} (f : A → B) (n : ℕ) (x : A) → map f (replicate n x) ≡ replicate n (f x)
 map_replicate f zero x = refl

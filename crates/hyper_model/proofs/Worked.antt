@@ -1,5 +1,5 @@
 -- What the worked plans share: balance at each word of a short list of masses, and the ends of a measure.
-use Rattle.std.proofs.Common.{inl, inr, ℕ, zero, suc, ◌-◌, ◌<◌, Bool, true, List, ◌++◌, length, replicate, arith, subst, sym}
+use Rattle.std.proofs.Common.{inl, inr, ℕ, zero, suc, ◌<◌, Bool, List, arith, subst, sym}
 use Rattle.std.proofs.lemmas.Bool.{cases_eq}
 use Rattle.hyper_model.specs.declared.kinds.Measure.{Measure}
 use Rattle.hyper_model.specs.declared.parts.PlanParts.{PlanParts}
@@ -26,9 +26,6 @@ each_pair n P all i j i_below j_below = each_below n (P i) (each_below n (λ k. 
 abbrev pub LiesBetween : PlanParts → List ℕ → ℕ → Measure → ℕ → ℕ → Type 0
 LiesBetween p xs z m lo hi = ContainsRatio lo hi (scale_of m) (measure_of p (mass_in xs) z m)
 
--- a list of an atom, with the rest of its twelve places as they were at first
+-- an atom's list
 abbrev pub row_of_units : List ℕ → List Bool → AtomList
-row_of_units units begins = record {
-  members = units ++ replicate (12 - length units) 0;
-  begins = begins ++ replicate (12 - length begins) true;
-}
+row_of_units units begins = record { members = units; begins = begins }

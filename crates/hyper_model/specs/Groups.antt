@@ -49,20 +49,23 @@ pub record IsRegular (lists : GroupLists) : Type 0 where
 -- lists with the unit 0 at every place, each in a group of its own
 abbrev pub first_lists : ℕ → ℕ → GroupLists
 first_lists atoms units = record {
-    units = units;
-    rows = replicate atoms (record { members = replicate units 0; begins = replicate units true }) }
+  units = units;
+  rows = replicate atoms (record { members = replicate units 0; begins = replicate units true });
+}
 
 -- the lists with this unit at this place
 abbrev pub with_member : GroupLists → ℕ → ℕ → ℕ → GroupLists
 with_member lists atom place unit = record lists {
-    rows = slice_set lists.rows atom
-        (record (row_of lists atom) { members = slice_set (row_of lists atom).members place unit }) }
+  rows = slice_set lists.rows atom
+      (record (row_of lists atom) { members = slice_set (row_of lists atom).members place unit });
+}
 
 -- the lists with this place in the group of the place before it
 abbrev pub with_joined : GroupLists → ℕ → ℕ → GroupLists
 with_joined lists atom place = record lists {
-    rows = slice_set lists.rows atom
-        (record (row_of lists atom) { begins = slice_set (row_of lists atom).begins place false }) }
+  rows = slice_set lists.rows atom
+      (record (row_of lists atom) { begins = slice_set (row_of lists atom).begins place false });
+}
 
 -- the units of an atom's list, in order
 abbrev pub list_of : GroupLists → ℕ → List ℕ

@@ -103,8 +103,9 @@ queue_on line.Infinite p x z =
 abbrev pub wait_on : Line → PlanParts → (ℕ → ℕ) → ℕ → Ratio
 wait_on line.Zero p x z = zero_ratio
 wait_on line.Infinite p x z = record {
-    numerator = p.period * z * all_service p;
-    denominator = mass p x z * (all_service p - all_calls p) * all_calls p }
+  numerator = p.period * z * all_service p;
+  denominator = mass p x z * (all_service p - all_calls p) * all_calls p;
+}
 
 abbrev pub measure_of : PlanParts → (ℕ → ℕ) → ℕ → Measure → Ratio
 measure_of p x z measure.Loss = loss_on p.line p x z
@@ -114,29 +115,35 @@ measure_of p x z measure.Wait = wait_on p.line p x z
 measure_of p x z (measure.Workload n) =
     record { numerator = sum_below (words p) (λ w. if is_busy w n then x w else 0) + z; denominator = mass p x z }
 measure_of p x z (measure.Dispatch n j) = record {
-    numerator = dispatched p x z n j;
-    denominator = all_calls p * all_service p * split p * base p x z }
+  numerator = dispatched p x z n j;
+  denominator = all_calls p * all_service p * split p * base p x z;
+}
 measure_of p x z measure.Interdistrict = record {
-    numerator = sum_below (units p) (λ n. dispatched_outside p x z n n);
-    denominator = sum_below (units p) (dispatched_by p x z) }
+  numerator = sum_below (units p) (λ n. dispatched_outside p x z n n);
+  denominator = sum_below (units p) (dispatched_by p x z);
+}
 measure_of p x z (measure.InterdistrictUnit n) =
     record { numerator = dispatched_outside p x z n n; denominator = dispatched_by p x z n }
 measure_of p x z (measure.InterdistrictDistrict n) = record {
-    numerator = sum_below (units p) (λ m. if m == n then 0 else dispatched_inside p x z m n);
-    denominator = sum_below (units p) (λ m. dispatched_inside p x z m n) }
+  numerator = sum_below (units p) (λ m. if m == n then 0 else dispatched_inside p x z m n);
+  denominator = sum_below (units p) (λ m. dispatched_inside p x z m n);
+}
 measure_of p x z measure.Travel = record {
-    numerator = all_calls p * sum_below (units p) (travelled p x)
-        + 1000 * split p * queued p x z * travel_among_calls p;
-    denominator = 1000 * all_calls p * all_calls p * split p * base p x z }
+  numerator = all_calls p * sum_below (units p) (travelled p x)
+      + 1000 * split p * queued p x z * travel_among_calls p;
+  denominator = 1000 * all_calls p * all_calls p * split p * base p x z;
+}
 measure_of p x z (measure.TravelAtom j) =
     record { numerator = travel_to p x z j; denominator = 1000 * all_calls p * split p * base p x z }
 measure_of p x z (measure.TravelUnit n) = record {
-    numerator = all_calls p * all_service p * travelled p x n
-        + 1000 * split p * service_of p n * queued p x z * travel_among_calls p;
-    denominator = 1000 * all_calls p * dispatched_by p x z n }
+  numerator = all_calls p * all_service p * travelled p x n
+      + 1000 * split p * service_of p n * queued p x z * travel_among_calls p;
+  denominator = 1000 * all_calls p * dispatched_by p x z n;
+}
 measure_of p x z (measure.TravelDistrict n) = record {
-    numerator = sum_below (atoms p) (λ j. if is_inside p n j then calls_of p j * travel_to p x z j else 0);
-    denominator = 1000 * all_calls p * split p * base p x z * district_calls p n }
+  numerator = sum_below (atoms p) (λ j. if is_inside p n j then calls_of p j * travel_to p x z j else 0);
+  denominator = 1000 * all_calls p * split p * base p x z * district_calls p n;
+}
 
 -- no call comes from the district, so nothing can be said of its calls
 abbrev pub is_without : PlanParts → Measure → Bool

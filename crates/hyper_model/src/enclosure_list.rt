@@ -1,7 +1,6 @@
 ghost use Rattle.std.specs.Prelude.{◌≡◌, ◌+◌, ◌<◌, ◌≤◌, ℕ, [], ◌∷◌, ◌++◌, All, length, vec_len, vec_capacity, IfOk, slice_get, IsTrue, ◌↔◌};
 
 use crate::Enclosed;
-
 use std::alloc::{AllocError, Global};
 use std::marker::Model;
 

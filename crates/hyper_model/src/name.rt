@@ -146,4 +146,3 @@ impl fmt::Display for Name {
         f.write_str(self.text())
     }
 }
-

@@ -1,7 +1,6 @@
 ghost use Rattle.std.specs.Prelude.{◌≡◌, ◌+◌, ◌<◌, ◌≤◌, ◌↔◌, ℕ, List, [], ◌∷◌, ◌++◌, length, vec_len, vec_capacity, IsTrue, IfOk, slice_get};
 
 use crate::{MOST_UNITS, Name};
-
 use std::alloc::{AllocError, Global};
 use std::marker::Model;
 

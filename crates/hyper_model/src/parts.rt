@@ -1,7 +1,6 @@
 ghost use Rattle.std.specs.Prelude.{◌≡◌, ◌<◌, ◌≤◌, ℕ, List, [], ◌∷◌, ◌++◌, length, vec_len, vec_capacity, IfOk, slice_get, IsTrue, ◌↔◌};
 
 use crate::{Line, Lists, MOST_ATOMS, MOST_UNITS, Name, Rule, Table};
-
 use std::alloc::{AllocError, Global};
 use std::marker::Model;
 

@@ -1,0 +1,7 @@
+-- lemmas, each file on one subject
+pub mod LastDropped
+pub mod CleanedFields
+pub mod WholeReading
+pub mod Front
+pub mod RowByRow
+pub mod InForm

@@ -1,0 +1,46 @@
+-- What holds of all records that a text gives.
+use Rattle.std.specs.Prelude.{◌≡◌, ℕ, ◌<◌, ◌≤◌, true, List, length, All, AllPairs}
+use Rattle.hyper_model.specs.Name.{is_name}
+use Rattle.hyper_model.specs.Plans.{IsBetween}
+use Rattle.plan_text.specs.declared.record.Record.{Record}
+use Rattle.plan_text.specs.declared.record.Record.TheVariants as rec
+
+-- the number of a record
+abbrev pub at_of : Record → ℕ
+at_of (rec.Version at number) = at
+at_of (rec.LineIs at line) = at
+at_of (rec.RuleIs at rule) = at
+at_of (rec.Period at seconds) = at
+at_of (rec.UnitIs at name rate) = at
+at_of (rec.AtomIs at name rate x y unit) = at
+at_of (rec.Travel at origin target seconds) = at
+at_of (rec.Located at unit atom thousandths) = at
+at_of (rec.Prefer at atom units) = at
+at_of (rec.Group at atom units) = at
+
+abbrev pub IsName : List ℕ → Type 0
+IsName bytes = is_name bytes ≡ true
+
+-- one to twelve names
+abbrev pub AreNames : List (List ℕ) → Type 0
+AreNames names = All IsName names × IsBetween 1 12 (length names)
+
+-- each value is in its range
+abbrev pub HasValues : Record → Type 0
+HasValues (rec.Version at number) = number ≤ 999999999
+HasValues (rec.LineIs at line) = Unit {0}
+HasValues (rec.RuleIs at rule) = Unit {0}
+HasValues (rec.Period at seconds) = IsBetween 1 100000000 seconds
+HasValues (rec.UnitIs at name rate) = IsName name × IsBetween 1 1000000 rate
+HasValues (rec.AtomIs at name rate x y unit) =
+    IsName name × (rate ≤ 1000000) × (x ≤ 1000000) × (y ≤ 1000000) × IsName unit
+HasValues (rec.Travel at origin target seconds) = IsName origin × IsName target × (seconds ≤ 100000)
+HasValues (rec.Located at unit atom thousandths) = IsName unit × IsName atom × IsBetween 1 1000 thousandths
+HasValues (rec.Prefer at atom units) = IsName atom × AreNames units
+HasValues (rec.Group at atom units) = IsName atom × AreNames units
+
+-- records with values in range, whose numbers rise
+pub record IsInForm (records : List Record) : Type 0 where
+  pub values : All HasValues records
+  pub numbers : All (λ r. IsBetween 1 50000 (at_of r)) records
+  pub rising : AllPairs (λ earlier later. at_of earlier < at_of later) records

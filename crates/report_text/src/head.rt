@@ -1,0 +1,52 @@
+ghost use Rattle.std.specs.Prelude.{◌≡◌, ◌++◌, IfOk};
+ghost use Rattle.report_text.specs.Heads.{head_bytes, line_line, size_lines, rate_lines, count_line};
+
+use crate::number::push_decimal;
+
+use hyper_model::{Line, Plan};
+use std::alloc::AllocError;
+
+/// Puts the first six lines of a plan's report behind the text: the version of the text's form, what becomes of
+/// a call while all units are busy, how many units and atoms there are, and the rates of all calls and of all
+/// service per period.
+pub fn push_head(text: &mut Vec<u8>, plan: &Plan) -> Result<(), AllocError>
+    ensures { IfOk result (λ _. text.new.items ≡ text.old.items ++ head_bytes plan.now) }
+{
+    push_count(text, b"report", 1)?;
+    push_line(text, plan.line())?;
+    push_sizes(text, plan)?;
+    push_rates(text, plan)
+}
+
+fn push_line(text: &mut Vec<u8>, line: Line) -> Result<(), AllocError>
+    ensures { IfOk result (λ _. text.new.items ≡ text.old.items ++ line_line line) }
+{
+    match line {
+        Line::Zero => text.extend_from_slice(b"line,zero\n"),
+        Line::Infinite => text.extend_from_slice(b"line,infinite\n"),
+    }
+}
+
+fn push_sizes(text: &mut Vec<u8>, plan: &Plan) -> Result<(), AllocError>
+    ensures { IfOk result (λ _. text.new.items ≡ text.old.items ++ size_lines plan.now) }
+{
+    push_count(text, b"units", plan.units() as u64)?;
+    push_count(text, b"atoms", plan.atoms() as u64)
+}
+
+fn push_rates(text: &mut Vec<u8>, plan: &Plan) -> Result<(), AllocError>
+    ensures { IfOk result (λ _. text.new.items ≡ text.old.items ++ rate_lines plan.now) }
+{
+    push_count(text, b"calls", u64::from(plan.calls()))?;
+    push_count(text, b"service", u64::from(plan.service()))
+}
+
+fn push_count(text: &mut Vec<u8>, word: &[u8], number: u64) -> Result<(), AllocError>
+    ensures { IfOk result (λ _. text.new.items ≡ text.old.items ++ count_line word.now number) }
+{
+    text.extend_from_slice(word)?;
+    text.push(b',')?;
+    push_decimal(text, number)?;
+    text.push(b'\n')?;
+    Ok(())
+}
