@@ -1,3 +1,4 @@
 pub mod Elimination
+pub mod Bands
 pub mod Levels
 pub mod Weights
