@@ -1,8 +1,9 @@
 -- A matrix of entries, kept in bands. A band has the rows of some states that follow each other, and of each row
 -- the columns from `left` on; what is not kept is exactly 0. One band of all rows and columns is the dense form.
-use Rattle.std.specs.Prelude.{◌≡◌, ◌≢◌, ℕ, ◌+◌, ◌-◌, ◌*◌, ◌^◌, ◌<◌, ◌≤◌, ◌↔◌, Bool, false, ◌&&◌, nat_lt, nat_le, if◌then◌else◌, List, [], length, slice_index, slice_index_or}
+use Rattle.std.specs.Prelude.{◌≡◌, ◌≢◌, ℕ, ◌+◌, ◌-◌, ◌*◌, ◌/◌, ◌^◌, ◌<◌, ◌≤◌, Bool, false, ◌&&◌, nat_lt, nat_le, if◌then◌else◌, List, [], length, slice_index, slice_index_or}
 use Rattle.fixed_interval.specs.Ends.{Ends, exact_ends}
-use Rattle.rate_matrix.specs.Elimination.{Entries, IsLive, IsWithin}
+use Rattle.hyper_model.specs.Tables.{RateTable, between_states}
+use Rattle.rate_matrix.specs.Elimination.{Entries, IsLive, IsWithin, outflow_of}
 
 -- the rows of the states from `first` on, each with the columns from `left` on, one row after the other
 pub record BandOfRows : Type 0 where
@@ -42,8 +43,11 @@ has_column band j = nat_le band.left j && nat_lt j (band.left + band.width)
 abbrev pub place_in : BandOfRows → ℕ → ℕ → ℕ
 place_in band i j = (i - band.first) * band.width + (j - band.left)
 
+abbrev pub cell_of : BandOfRows → Entries
+cell_of band i j = slice_index_or band.cells (place_in band i j) (exact_ends 0)
+
 unfoldable pub band_entry : BandOfRows → Entries
-band_entry band i j = if has_column band j then slice_index_or band.cells (place_in band i j) (exact_ends 0) else exact_ends 0
+band_entry band i j = if has_column band j then cell_of band i j else exact_ends 0
 
 abbrev pub band_at : BandedRates → ℕ → BandOfRows
 band_at m level = slice_index_or m.bands level no_band
@@ -68,6 +72,13 @@ outflow m i = slice_index m.flows i
 abbrev pub cap : BandedRates → ℕ → ℕ
 cap m i = m.scale * outflow m i
 
+-- the same rows and columns
+pub record HasSameShape (old new : BandOfRows) : Type 0 where
+  pub first : new.first ≡ old.first
+  pub rows : new.rows ≡ old.rows
+  pub left : new.left ≡ old.left
+  pub width : new.width ≡ old.width
+
 -- nothing but entries and the number of states alive may differ
 pub record HasSameFrame (old new : BandedRates) : Type 0 where
   pub size : new.size ≡ old.size
@@ -75,7 +86,8 @@ pub record HasSameFrame (old new : BandedRates) : Type 0 where
   pub packed : new.packed ≡ old.packed
   pub flows : new.flows ≡ old.flows
   pub levels : new.levels ≡ old.levels
-  pub kept : (i j : ℕ) → IsKept new i j ↔ IsKept old i j
+  pub count : length new.bands ≡ length old.bands
+  pub shape : (l : ℕ) → HasSameShape (band_at old l) (band_at new l)
 
 -- each state has a row in the one band of its level, and later states have their first columns no earlier
 pub record IsBanded (m : BandedRates) : Type 0 where
@@ -87,6 +99,27 @@ pub record IsBanded (m : BandedRates) : Type 0 where
   pub columns : (l : ℕ) → l < length m.bands → (band_at m l).left + (band_at m l).width ≤ m.size
   pub falls : (i j : ℕ) → i ≤ j → j < m.size → (band_of m i).left ≤ (band_of m j).left
   pub whole : m.packed ≡ false → (i j : ℕ) → i < m.size → j < m.size → IsKept m i j
+
+-- rows and columns for so many states
+abbrev pub laid_out : ℕ → Bool → List ℕ → List BandOfRows → BandedRates
+laid_out size packed levels bands = record {
+  size = size;
+  alive = size;
+  scale = 0;
+  packed = packed;
+  flows = [];
+  levels = levels;
+  bands = bands
+}
+
+-- The matrix of a chain before any elimination: the rates from each state to each other, times one scale. The
+-- scale is the greatest in which no state's rates sum to more than 2 ^ 62.
+pub record IsMatrixOf (states : ℕ) (rates : RateTable) (top : ℕ) (m : BandedRates) : Type 0 where
+  pub size : m.size ≡ states
+  pub alive : m.alive ≡ states
+  pub scale : m.scale ≡ 2 ^ 62 / top
+  pub outflows : (i : ℕ) → i < states → outflow m i ≡ outflow_of states rates i
+  pub entries : (i j : ℕ) → i < states → j < states → entry m i j ≡ exact_ends (m.scale * between_states rates i j)
 
 -- what every matrix keeps
 pub record IsSound (m : BandedRates) : Type 0 where
