@@ -88,6 +88,37 @@ at_other_cell b i j p q v r c rp ne = on_test (has_column b q)
 abbrev pub with_bands : BandedRates → List BandOfRows → BandedRates
 with_bands m bs = record m { bands = bs }
 
+-- the same rows and columns
+pub shape_row : (b c : BandOfRows) (i : ℕ) → HasSameShape b c → HasRow b i → HasRow c i
+shape_row b c i e r = record { from = omega (arith, e.first, r.from); to = omega (arith, e.first, e.rows, r.to) }
+
+pub shape_row_back : (b c : BandOfRows) (i : ℕ) → HasSameShape b c → HasRow c i → HasRow b i
+shape_row_back b c i e r = record { from = omega (arith, e.first, r.from); to = omega (arith, e.first, e.rows, r.to) }
+
+pub shape_column : (b c : BandOfRows) (j : ℕ) → HasSameShape b c → HasColumn b j → HasColumn c j
+shape_column b c j e k = record { from = omega (arith, e.left, k.from); to = omega (arith, e.left, e.width, k.to) }
+
+pub banded_changed : (m : BandedRates) (bs : List BandOfRows) → IsBanded m → length bs ≡ length m.bands
+    → ((l : ℕ) → HasSameShape (band_at m l) (band_at (with_bands m bs) l))
+    → ((l : ℕ) → l < length m.bands → length (band_at (with_bands m bs) l).cells ≡ length (band_at m l).cells)
+    → IsBanded (with_bands m bs)
+banded_changed m bs b count shape cells = record {
+  levels = b.levels;
+  level = λ i l. omega (arith, count, b.level i l);
+  row = λ i l. shape_row _ _ i (shape (slice_index m.levels i)) (b.row i l);
+  own = λ l i h r. b.own l i (omega (arith, count, h)) (shape_row_back _ _ i (shape l) r);
+  cells = λ l h.
+      let k : l < length m.bands = omega (arith, count, h) in
+      let e = shape l in
+      cells l k ∙ b.cells l k ∙ sym (ap (λ a. a * (band_at (with_bands m bs) l).width) e.rows ∙ ap (λ a. (band_at m l).rows * a) e.width);
+  columns = λ l h.
+      let k : l < length m.bands = omega (arith, count, h) in
+      omega (arith, (shape l).left, (shape l).width, b.columns l k);
+  falls = λ i j o l.
+      omega (arith, (shape (slice_index m.levels i)).left, (shape (slice_index m.levels j)).left, b.falls i j o l);
+  whole = λ p i j l k. shape_column _ _ j (shape (slice_index m.levels i)) (b.whole p i j l k);
+}
+
 -- the matrix is sound with bands of the same shape in which the entries between states are no lower and within
 -- the caps
 pub sound_changed : (m : BandedRates) (bs : List BandOfRows) → IsSound m
@@ -112,36 +143,6 @@ sound_changed m bs s count shape cells grows within = record {
       (λ k q. grows i k l (omega arith)) in
       omega (arith, more, s.live.leaves i p l) };
 }
-  where
-    row_of : (b c : BandOfRows) (i : ℕ) → HasSameShape b c → HasRow b i → HasRow c i
-    row_of b c i e r = record { from = omega (arith, e.first, r.from); to = omega (arith, e.first, e.rows, r.to) }
-
-    row_back : (b c : BandOfRows) (i : ℕ) → HasSameShape b c → HasRow c i → HasRow b i
-    row_back b c i e r = record { from = omega (arith, e.first, r.from); to = omega (arith, e.first, e.rows, r.to) }
-
-    column_of : (b c : BandOfRows) (j : ℕ) → HasSameShape b c → HasColumn b j → HasColumn c j
-    column_of b c j e k = record { from = omega (arith, e.left, k.from); to = omega (arith, e.left, e.width, k.to) }
-
-    banded_changed : (m : BandedRates) (bs : List BandOfRows) → IsBanded m → length bs ≡ length m.bands
-        → ((l : ℕ) → HasSameShape (band_at m l) (band_at (with_bands m bs) l))
-        → ((l : ℕ) → l < length m.bands → length (band_at (with_bands m bs) l).cells ≡ length (band_at m l).cells)
-        → IsBanded (with_bands m bs)
-    banded_changed m bs b count shape cells = record {
-      levels = b.levels;
-      level = λ i l. omega (arith, count, b.level i l);
-      row = λ i l. row_of _ _ i (shape (slice_index m.levels i)) (b.row i l);
-      own = λ l i h r. b.own l i (omega (arith, count, h)) (row_back _ _ i (shape l) r);
-      cells = λ l h.
-          let k : l < length m.bands = omega (arith, count, h) in
-          let e = shape l in
-          cells l k ∙ b.cells l k ∙ sym (ap (λ a. a * (band_at (with_bands m bs) l).width) e.rows ∙ ap (λ a. (band_at m l).rows * a) e.width);
-      columns = λ l h.
-          let k : l < length m.bands = omega (arith, count, h) in
-          omega (arith, (shape l).left, (shape l).width, b.columns l k);
-      falls = λ i j o l.
-          omega (arith, (shape (slice_index m.levels i)).left, (shape (slice_index m.levels j)).left, b.falls i j o l);
-      whole = λ p i j l k. column_of _ _ j (shape (slice_index m.levels i)) (b.whole p i j l k);
-    }
 
 -- another band at one level
 pub band_at_same : (m : BandedRates) (l : ℕ) (b : BandOfRows) → l < length m.bands

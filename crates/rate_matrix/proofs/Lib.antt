@@ -1,2 +1,4 @@
 -- lemmas, each file on one subject
 pub mod BandLemmas
+pub mod RowFilling
+pub mod ExactMatrix

@@ -100,17 +100,21 @@ pub record IsBanded (m : BandedRates) : Type 0 where
   pub falls : (i j : ℕ) → i ≤ j → j < m.size → (band_of m i).left ≤ (band_of m j).left
   pub whole : m.packed ≡ false → (i j : ℕ) → i < m.size → j < m.size → IsKept m i j
 
--- rows and columns for so many states
-abbrev pub laid_out : ℕ → Bool → List ℕ → List BandOfRows → BandedRates
-laid_out size packed levels bands = record {
+-- a matrix of which no state is eliminated
+abbrev pub parts_matrix : ℕ → ℕ → Bool → List ℕ → List ℕ → List BandOfRows → BandedRates
+parts_matrix size scale packed flows levels bands = record {
   size = size;
   alive = size;
-  scale = 0;
+  scale = scale;
   packed = packed;
-  flows = [];
+  flows = flows;
   levels = levels;
   bands = bands
 }
+
+-- rows and columns for so many states
+abbrev pub laid_out : ℕ → Bool → List ℕ → List BandOfRows → BandedRates
+laid_out size packed levels bands = parts_matrix size 0 packed [] levels bands
 
 -- The matrix of a chain before any elimination: the rates from each state to each other, times one scale. The
 -- scale is the greatest in which no state's rates sum to more than 2 ^ 62.

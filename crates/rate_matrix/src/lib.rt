@@ -3,6 +3,7 @@
 
 mod band;
 mod chain;
+mod exact;
 mod matrix;
 
 pub use chain::{Chain, law_descending};

@@ -1,6 +1,6 @@
 ghost use Rattle.std.specs.Prelude.{◌≡◌, ◌≢◌, ℕ, ◌-◌, ◌^◌, ◌<◌, ◌≤◌, true};
 ghost use Rattle.fixed_interval.specs.Ends.{Ends};
-ghost use Rattle.rate_matrix.specs.Bands.{HasSameFrame, IsKept, IsSound, band_of, cap, entry, has_column, outflow};
+ghost use Rattle.rate_matrix.specs.Bands.{HasSameFrame, IsKept, IsSound, band_of, cap, entry, has_column, outflow, parts_matrix};
 
 use crate::band::Band;
 use fixed_interval::Iv;
@@ -35,6 +35,29 @@ impl Model for RateMatrix {
 }
 
 impl RateMatrix {
+    /// The matrix with these outflows and bands, of which no state is eliminated.
+    pub(crate) fn of_parts(
+        size: usize,
+        scale: u64,
+        packed: bool,
+        flows: Vec<u64>,
+        levels: Vec<usize>,
+        bands: Vec<Band>,
+    ) -> RateMatrix
+        requires { IsSound (parts_matrix size scale packed flows.items levels.items bands.items) }
+        ensures { result ≡ parts_matrix size scale packed flows.items levels.items bands.items }
+    {
+        RateMatrix {
+            size,
+            alive: size,
+            scale,
+            packed,
+            flows,
+            levels,
+            bands,
+        }
+    }
+
     /// How many states there are, 2 to 4096.
     pub fn size(&self) -> usize
         ensures size { result ≡ self.now.size }
