@@ -1,0 +1,59 @@
+use Rattle.std.proofs.Common.{◌≡◌, ℕ, ◌-◌, ◌^◌, ◌<◌, ◌≤◌, List, length, drop, not, refl, sym, ap, ◌∙◌, subst, arith}
+use Rattle.std.specs.Prelude.{◌↔◌, Option, Some, None}
+use Rattle.hyper_model.specs.Groups.{list_of, row_of, member_at}
+use Rattle.hyper_model.specs.Words.{is_busy, first_free}
+use Rattle.busy_words.proofs.FirstGroups.{first_none_full, found_here, found_none, found_later, list_reaches, list_ends, member_below}
+use Rattle.busy_words.proofs.dispatch.first_free.Goals as goal
+
+pub is_busy-requires : goal.is_busy-requires
+is_busy-requires c =
+    omega (
+      arith,
+      c.unit-unit.ensures,
+      c.units-place-end.ensures.most,
+      c.units-place-end.ensures.units,
+      member_below c.args.lists.now c.units-place-end.ensures.regular c.args.atom c.loop-place.place c.requires.atom
+          (omega arith) c.requires.grouped,
+    )
+
+pub returns-then-not-is_busy : goal.returns-then-not-is_busy
+returns-then-not-is_busy c =
+    let lists = c.args.lists.now in
+    let inside = list_reaches lists c.units-place-end.ensures.regular c.args.atom c.loop-place.place c.requires.atom
+    (omega arith) in
+    let free = ap not (sym c.is_busy.ensures ∙ c.if-not-is_busy.true) in
+    let found : Some c.unit-unit.result ≡ first_free lists c.args.atom c.args.word =
+    ap (λ u. Some u) c.unit-unit.ensures
+    ∙ sym (found_here (list_of lists c.args.atom) c.args.word c.loop-place.place inside
+    (ap (λ u. not (is_busy c.args.word u)) (sym c.unit-unit.ensures) ∙ free))
+    ∙ c.loop-place.invariant in
+    record {
+      first = found;
+      full = subst (λ r. (r ≡ None) ↔ (c.args.word ≡ 2 ^ lists.units - 1)) (sym found)
+          (first_none_full lists.units (list_of lists c.args.atom) (drop 1 (row_of lists c.args.atom).begins)
+          c.requires.grouped c.args.word c.requires.word);
+    }
+
+pub loop-place-preserved : goal.loop-place-preserved
+loop-place-preserved c =
+    let lists = c.args.lists.now in
+    let inside = list_reaches lists c.units-place-end.ensures.regular c.args.atom c.loop-place.place c.requires.atom
+    (omega arith) in
+    let busy = ap not (sym c.is_busy.ensures ∙ c.if-not-is_busy.false) in
+    found_later (list_of lists c.args.atom) c.args.word c.loop-place.place inside
+    (ap (λ u. not (is_busy c.args.word u)) (sym c.unit-unit.ensures) ∙ busy)
+    ∙ c.loop-place.invariant
+
+pub returns : goal.returns
+returns c =
+    let lists = c.args.lists.now in
+    let found : None ≡ first_free lists c.args.atom c.args.word =
+    sym (found_none (list_of lists c.args.atom) c.args.word c.loop-place.place
+    (list_ends lists c.units-place-end.ensures.regular c.args.atom c.loop-place.place c.requires.atom (omega arith)))
+    ∙ c.loop-place.invariant in
+    record {
+      first = found;
+      full = subst (λ r. (r ≡ None) ↔ (c.args.word ≡ 2 ^ lists.units - 1)) (sym found)
+          (first_none_full lists.units (list_of lists c.args.atom) (drop 1 (row_of lists c.args.atom).begins)
+          c.requires.grouped c.args.word c.requires.word);
+    }
