@@ -1,4 +1,5 @@
 pub mod Elimination
 pub mod Bands
+pub mod Rows
 pub mod Levels
 pub mod Weights

@@ -4,7 +4,10 @@
 mod band;
 mod chain;
 mod exact;
+mod gate;
 mod matrix;
+mod rows;
 
 pub use chain::{Chain, law_descending};
+pub use gate::{Gate, OpenGate};
 pub use matrix::RateMatrix;

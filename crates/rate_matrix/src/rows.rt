@@ -1,0 +1,62 @@
+ghost use Rattle.std.specs.Prelude.{◌≡◌, ◌≢◌, ℕ, ◌+◌, ◌-◌, ◌*◌, ◌/◌, ◌^◌, ◌<◌, ◌≤◌, ◌==◌, length, slice_index, if◌then◌else◌};
+ghost use Rattle.rate_matrix.specs.Elimination.{raised};
+ghost use Rattle.rate_matrix.specs.Rows.{AreAfter, CanEliminate, part_in, rows_from};
+
+use crate::gate::Gate;
+use fixed_interval::Iv;
+
+/// What the rows of a matrix need while one state is eliminated: its number, the scale and the outflows of
+/// the matrix, and the parts that go to the states before it.
+pub(crate) struct Elimination<'a, G> {
+    pub(crate) state: usize,
+    pub(crate) scale: u64,
+    pub(crate) flows: &'a [u64],
+    pub(crate) parts: &'a [Iv],
+    pub(crate) gate: &'a G,
+    pub(crate) place: usize,
+}
+
+impl<G: Gate> Elimination<'_, G> {
+    /// Changes rows of `width` columns from `left` on, the first of which is that of the state `first`.
+    pub(crate) fn update_rows(&self, rows: &mut [Iv], first: usize, left: usize, width: usize)
+        requires { CanEliminate self.now.state self.now.scale self.now.flows.now self.now.parts.now
+            (rows_from first left width rows.old) }
+        ensures { AreAfter self.now.state self.now.scale self.now.flows.now self.now.parts.now
+            (rows_from first left width rows.old) rows.new }
+    {
+        for r in 0..rows.len() / width {
+            self.update_row(&mut rows[r * width..(r + 1) * width], first + r, left);
+        }
+    }
+
+    fn update_row(&self, row: &mut [Iv], i: usize, left: usize)
+        requires { CanEliminate self.now.state self.now.scale self.now.flows.now self.now.parts.now
+            (rows_from i left (length row.old) row.old) }
+        ensures { AreAfter self.now.state self.now.scale self.now.flows.now self.now.parts.now
+            (rows_from i left (length row.old) row.old) row.new }
+    {
+        let into = row[self.state - left];
+        if into.hi() == 0 {
+            return;
+        }
+        let cap = self.scale * self.flows[i];
+        for q in 0..self.state - left {
+            row[q] = self.updated(i, left + q, row[q], into, cap);
+        }
+    }
+
+    // The entry from state i to state j, which goes past the gate only where something is added to it.
+    fn updated(&self, i: usize, j: usize, old: Iv, into: Iv, cap: u64) -> Iv
+        requires cap { cap ≤ 2 ^ 62 }
+        requires part { j < length self.now.parts.now }
+        requires ordered { i ≢ j → old.lo ≤ old.hi }
+        requires capped { i ≢ j → old.hi ≤ cap }
+        ensures { result ≡ (if i == j then old else raised old into (part_in self.now.parts.now j) cap) }
+    {
+        let part = self.parts[j];
+        if i == j || part.hi() == 0 {
+            return old;
+        }
+        self.gate.cell(self.place, i, old, into, part, cap)
+    }
+}
