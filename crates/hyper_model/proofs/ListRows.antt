@@ -1,8 +1,8 @@
 -- What contracts see of the twelve places of a row, and how a write to a place is seen.
-use Rattle.std.proofs.Common.{◌≡◌, ℕ, ◌<◌, ◌≤◌, Bool, true, false, List, [], ◌∷◌, length, map, take, drop, min, ◌+◌, ◌-◌, get_or, set, All, replicate, refl, sym, ap, ◌∙◌, zero, suc, arith}
+use Rattle.std.proofs.Common.{◌≡◌, ℕ, ◌<◌, ◌≤◌, true, false, List, ◌∷◌, length, map, take, drop, min, ◌+◌, ◌-◌, get_or, set, replicate, refl, sym, ap, ◌∙◌, zero, suc, arith}
 use Rattle.std.proofs.lemmas.List.{drop-take, length-map, map-set, length-take-le, take-replicate}
 use Rattle.std.proofs.lemmas.List as lists
-use Rattle.std.proofs.lemmas.List.Elements.{All-map, All-replicate, All-weaker, All-get_or}
+use Rattle.std.proofs.lemmas.List.Elements.{All-map, All-weaker}
 use Rattle.std.proofs.Math.Seq.{take-set-lt}
 use Rattle.hyper_model.specs.declared.preference.ListRow.{ListRow}
 use Rattle.hyper_model.specs.Groups.{AtomList, GroupLists, no_row, row_of, IsRegular, first_lists, with_member, with_joined}

@@ -1,5 +1,5 @@
 -- Preference lists of groups. A call takes one of the free units of the first group that has one.
-use Rattle.std.specs.Prelude.{◌≡◌, ℕ, ◌+◌, ◌<◌, ◌==◌, Bool, true, false, if◌then◌else◌, List, [], ◌∷◌, length, All, sum_by, count_by, drop, replicate, slice_set, slice_index_or}
+use Rattle.std.specs.Prelude.{◌≡◌, ℕ, ◌<◌, ◌==◌, Bool, true, false, if◌then◌else◌, List, [], ◌∷◌, length, All, sum_by, count_by, drop, replicate, slice_set, slice_index_or}
 
 -- a unit put before groups: in a group of its own where it is alone, else at the head of the first
 abbrev pub put_before : ℕ → Bool → List (List ℕ) → List (List ℕ)

@@ -1,11 +1,11 @@
 -- Words: the states of the fleet. A word is a number below 2 ^ N; unit n is busy in it where bit n is set.
-use Rattle.std.specs.Prelude.{◌≡◌, ℕ, ◌+◌, ◌-◌, ◌*◌, ◌/◌, ◌^◌, ◌==◌, Bool, true, false, not, ◌&&◌, if◌then◌else◌, List, [], ◌∷◌, Option, bit_xor}
+use Rattle.std.specs.Prelude.{ℕ, ◌-◌, ◌/◌, ◌^◌, ◌==◌, Bool, false, not, ◌&&◌, if◌then◌else◌, List, [], ◌∷◌, Option, bit_xor}
 use Rattle.std.specs.List.{find, list_any}
 use Rattle.std.specs.Int.{bit_at}
 use Rattle.hyper_model.specs.declared.parts.PlanParts.{PlanParts}
 use Rattle.hyper_model.specs.Sums.{sum_below}
 use Rattle.hyper_model.specs.Groups.{GroupLists, list_of}
-use Rattle.hyper_model.specs.Plans.{units, atoms, groups_of, split}
+use Rattle.hyper_model.specs.Plans.{units, groups_of, split}
 
 abbrev pub words : PlanParts → ℕ
 words p = 2 ^ units p

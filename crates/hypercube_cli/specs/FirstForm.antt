@@ -1,7 +1,8 @@
 -- The one form of plan that is read so far: a unit, an atom, the travel within it, the unit's place there, and
 -- a list of the unit alone, as five records in this order.
-use Rattle.std.specs.Prelude.{◌≡◌, ℕ, Bool, ◌&&◌, if◌then◌else◌, ◌==◌, List, [], ◌∷◌, length, nat_lt, count_by, Option, Some, None, Result, Ok, Err, codes, option_and_then}
-use Rattle.std.specs.Option.{option_map}
+use Rattle.std.specs.Prelude.{◌≡◌, ℕ, Bool, false, ◌&&◌, if◌then◌else◌, ◌==◌, List, [], ◌∷◌, ◌++◌, length, nat_lt, count_by, Option, Some, None, Result, Ok, Err, codes, option_and_then}
+use Rattle.std.specs.Option.{option_map, option_to_list}
+use Rattle.std.specs.Result.{result_ok}
 use Rattle.std.specs.Str.{bytes_eq}
 use Rattle.hyper_model.specs.declared.parts.Unit as declared_unit
 use Rattle.hyper_model.specs.declared.parts.Atom.{Atom}
@@ -12,20 +13,15 @@ use Rattle.plan_text.specs.Fields.{field}
 use Rattle.plan_text.specs.Reading.{reading_of}
 use Rattle.plan_text.specs.declared.record.Record.{Record}
 use Rattle.plan_text.specs.declared.record.Record.TheVariants as rec
-use Rattle.plan_text.specs.declared.refusal.TextRefusal.{TextRefusal}
 use Rattle.hypercube_cli.specs.declared.refusals.PlanRefusal.{PlanRefusal}
 use Rattle.hypercube_cli.specs.declared.refusals.PlanRefusal.TheVariants as refusal
 
--- a record before others, unless its row is passed over; none where its row says no record
-abbrev pub put_record : Result (Option Record) TextRefusal → Option (List Record) → Option (List Record)
-put_record (Ok None) more = more
-put_record (Ok (Some r)) more = option_map (λ rs. r ∷ rs) more
-put_record (Err e) more = None
-
--- the records of all rows that are not passed over, where each of these says one
+-- the records of all rows, where each row that is not passed over says one
 abbrev pub records_said : List Fields → Option (List Record)
 records_said [] = Some []
-records_said (row ∷ rows) = put_record (reading_of 1 false row) (records_said rows)
+records_said (row ∷ rows) =
+    option_and_then (λ read. option_map (λ rs. option_to_list read ++ rs) (records_said rows))
+      (result_ok (reading_of 1 false row))
 
 -- a unit
 abbrev pub unit_said : Record → Option declared_unit.Unit

@@ -59,10 +59,11 @@ pub record FinishesCommand (command : Option (List ℕ)) (texts : List NamedText
   pub is_its : IsEndingOf command texts ending
   pub finishes : Finishes ending result before after
 
--- the run has the command's ending, or was cut short while it wrote, or read nothing and wrote nothing
+-- the run has the command's ending, or was cut short while it wrote, or before it wrote anything
 abbrev pub RunsCommand : Option (List ℕ) → List NamedText → Outcome → Option (List ℕ) → Option (List ℕ) → Type 0
 RunsCommand command texts result before after =
-    FinishesCommand command texts result before after ⊎ ((result ≡ outcome.ReadFault) × Keeps before after)
+    FinishesCommand command texts result before after
+    ⊎ (((result ≡ outcome.ReadFault) ⊎ (result ≡ outcome.NoMemory)) × Keeps before after)
 
 -- A report was written whose every interval contains its measure: the text has a plan, the plan's balance
 -- equations have a solution, and for each of its solutions the ends of each line contain what Larson's

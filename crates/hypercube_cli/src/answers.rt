@@ -1,14 +1,13 @@
 ghost use Rattle.std.specs.Prelude.{◌≡◌, IfOk};
 ghost use Rattle.hypercube_cli.specs.FirstForm.{plan_of_text};
+ghost use Rattle.hypercube_cli.specs.OneUnit.{IsOneUnit};
 ghost use Rattle.hypercube_cli.specs.Runs.{IsAnswer};
 
 use crate::first_form::read_plan;
 use crate::first_report::report;
 use crate::refusals::refusal_text;
 use crate::{Outcome, PlanRefusal, Refusal};
-
 use std::alloc::{AllocError, Global};
-use std::marker::Model;
 
 /// An outcome, and the text that tells of it.
 #[derive(Drop)]
@@ -17,17 +16,11 @@ pub(crate) struct Answer {
     pub(crate) text: Vec<u8>,
 }
 
-impl Model for Answer {
-    ghost use Rattle.hypercube_cli.specs.Runs.{Ending};
-
-    ghost Value = { Ending };
-
-    ghost view = { λ a. record { outcome = a.outcome; text = a.text.items } };
-}
-
 /// What the plan of a text comes to.
-pub(crate) fn answer(alloc: Global, text: &[u8]) -> Result<Answer, AllocError>
-    ensures { IfOk result (λ answer. IsAnswer (plan_of_text text.now) answer) }
+pub(crate) fn answer_text(alloc: Global, text: &[u8]) -> Result<Answer, AllocError>
+    ensures answer { IfOk result (λ answer.
+        IsAnswer (plan_of_text text.now) (record { outcome = answer.outcome; text = answer.text.items })) }
+    ensures form { IfOk result (λ answer. answer.outcome ≡ Outcome.Done → IfOk (plan_of_text text.now) IsOneUnit) }
 {
     match read_plan(alloc, text) {
         Ok(plan) => Ok(Answer {

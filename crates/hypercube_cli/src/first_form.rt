@@ -1,22 +1,28 @@
-ghost use Rattle.std.specs.Prelude.{◌≡◌, ◌≤◌, ◌<◌, IfOk, Some, count_by, option_and_then};
-ghost use Rattle.std.specs.Option.{option_map};
+ghost use Rattle.std.specs.Prelude.{◌≡◌, ◌≤◌, ◌++◌, false, IfOk, IfSome, All, count_by, option_and_then};
+ghost use Rattle.std.specs.Option.{option_map, option_to_list};
+ghost use Rattle.std.specs.Result.{result_ok};
+ghost use Rattle.plan_text.specs.Reading.{reading_of};
+ghost use Rattle.hypercube_cli.specs.OneUnit.{IsOneUnit};
 ghost use Rattle.hyper_model.specs.Plans.{IsBetween, IsPlaced};
 ghost use Rattle.hypercube_cli.specs.FirstForm as spec;
 ghost use Rattle.hypercube_cli.specs.OneUnit as form;
+ghost use Rattle.plan_text.specs.Form.{HasValues};
 ghost use Rattle.plan_text.specs.Steps.{Gives};
 ghost use Rattle.hypercube_cli.specs.FirstForm.{plan_of_text, records_said, is_unit_row};
 
 use crate::PlanRefusal;
 use hyper_model::{Atom, Atoms, Line, Lists, Name, Plan, PlanParts, Rule, Table, Unit, Units};
-use plan_text::{MOST_TEXT_BYTES, Record, RowList, TextRefusal, read_row, rows};
+use plan_text::{MOST_TEXT_BYTES, Record, Row, RowList, TextRefusal, read_row, rows};
 use std::alloc::{AllocError, Global};
 
 /// The period of the rates where a text does not give it: an hour, in seconds.
 const HOUR: u32 = 3600;
 
 /// The plan of a text of the first form.
+#[tactic(auto, unfolding(crate::specs::FirstForm::plan_of_text))]
 pub(crate) fn read_plan(alloc: Global, bytes: &[u8]) -> Result<Plan, PlanRefusal>
-    ensures { Gives PlanRefusal.NoMemory (λ plan. plan) result (plan_of_text bytes.now) }
+    ensures plan { Gives PlanRefusal.NoMemory (λ plan. plan) result (plan_of_text bytes.now) }
+    ensures form { IfOk result IsOneUnit }
 {
     if bytes.len() > MOST_TEXT_BYTES {
         return Err(PlanRefusal::TooLong(bytes.len() as u64));
@@ -30,7 +36,8 @@ pub(crate) fn read_plan(alloc: Global, bytes: &[u8]) -> Result<Plan, PlanRefusal
 }
 
 fn read_first(alloc: Global, rows: &RowList) -> Result<Option<Plan>, AllocError>
-    ensures { IfOk result (λ plan. plan ≡ option_and_then spec.first_plan (records_said rows.now)) }
+    ensures plan { IfOk result (λ plan. plan ≡ option_and_then spec.first_plan (records_said rows.now)) }
+    ensures form { IfOk result (λ plan. IfSome plan IsOneUnit) }
 {
     match read_records(alloc, rows)? {
         Some(records) => first_plan(alloc, &records),
@@ -40,22 +47,41 @@ fn read_first(alloc: Global, rows: &RowList) -> Result<Option<Plan>, AllocError>
 
 /// The records of all rows that are not passed over, where each of these says one.
 fn read_records(alloc: Global, rows: &RowList) -> Result<Option<Vec<Record>>, AllocError>
-    ensures { IfOk result (λ found. option_map (λ records. records.items) found ≡ records_said rows.now) }
+    ensures records { IfOk result (λ found. option_map (λ records. records.items) found ≡ records_said rows.now) }
+    ensures values { IfOk result (λ found. IfSome found (λ records. All HasValues records.items)) }
 {
     let mut found = Vec::new(alloc);
     for place in 0..rows.len() {
-        match read_row(alloc, &rows.row(place), 1, false) {
-            Ok(Some(record)) => found.push(record).map_err(|_| AllocError)?,
-            Ok(None) => {}
-            Err(TextRefusal::NoMemory) => return Err(AllocError),
-            Err(_) => return Ok(None),
-        }
+        let Some(read) = record_said(alloc, &rows.row(place))? else { return Ok(None) };
+        keep(&mut found, read)?;
     }
     Ok(Some(found))
 }
 
+fn record_said(alloc: Global, row: &Row<'_>) -> Result<Option<Option<Record>>, AllocError>
+    ensures read { IfOk result (λ read. read ≡ result_ok (reading_of 1 false row.now)) }
+    ensures values { IfOk result (λ read. IfSome read (λ found. IfSome found HasValues)) }
+{
+    match read_row(alloc, row, 1, false) {
+        Ok(read) => Ok(Some(read)),
+        Err(TextRefusal::NoMemory) => Err(AllocError),
+        Err(_) => Ok(None),
+    }
+}
+
+fn keep(found: &mut Vec<Record>, read: Option<Record>) -> Result<(), AllocError>
+    ensures { IfOk result (λ _. found.new.items ≡ found.old.items ++ option_to_list read) }
+{
+    if let Some(record) = read {
+        found.push(record).map_err(|_| AllocError)?;
+    }
+    Ok(())
+}
+
 fn first_plan(alloc: Global, records: &[Record]) -> Result<Option<Plan>, AllocError>
-    ensures { IfOk result (λ plan. plan ≡ spec.first_plan records.now) }
+    requires { All HasValues records.now }
+    ensures plan { IfOk result (λ plan. plan ≡ spec.first_plan records.now) }
+    ensures form { IfOk result (λ plan. IfSome plan IsOneUnit) }
 {
     let [first, second, third, fourth, fifth] = records else { return Ok(None) };
     let Some(unit) = unit_said(alloc, first)? else { return Ok(None) };
@@ -64,7 +90,8 @@ fn first_plan(alloc: Global, records: &[Record]) -> Result<Option<Plan>, AllocEr
         return Ok(None);
     }
     let Some(seconds) = seconds_said(&atom.name, third) else { return Ok(None) };
-    one_unit_plan(alloc, unit, atom, seconds)
+    let plan = one_unit_plan(alloc, unit, atom, seconds)?;
+    Ok(Some(plan))
 }
 
 fn unit_said(alloc: Global, item: &Record) -> Result<Option<Unit>, AllocError>
@@ -145,19 +172,19 @@ fn count_units(rows: &RowList) -> usize
 {
     let mut count = 0;
     for place in 0..rows.len() {
-        if rows.field(place, 0) == b"unit" {
+        if rows.row(place).field(0) == b"unit".as_slice() {
             count += 1;
         }
     }
     count
 }
 
-fn one_unit_plan(alloc: Global, unit: Unit, atom: Atom, seconds: u32) -> Result<Option<Plan>, AllocError>
+fn one_unit_plan(alloc: Global, unit: Unit, atom: Atom, seconds: u32) -> Result<Plan, AllocError>
     requires serves { IsBetween 1 1000000 unit.rate }
     requires placed { IsPlaced 1 atom }
     requires called { 1 ≤ atom.rate }
     requires near { seconds ≤ 100000 }
-    ensures { IfOk result (λ plan. plan ≡ Some (form.one_unit_plan unit atom seconds)) }
+    ensures { IfOk result (λ plan. plan ≡ form.one_unit_plan unit atom seconds) }
 {
     let mut units = Units::of(alloc)?;
     units.push(unit);
@@ -167,15 +194,19 @@ fn one_unit_plan(alloc: Global, unit: Unit, atom: Atom, seconds: u32) -> Result<
     located.set(0, 0, 1000);
     let mut travel = Table::of(alloc, 1, 1)?;
     travel.set(0, 0, seconds);
-    let plan = Plan::of(PlanParts {
+    let lists = Lists::of(alloc, 1, 1)?;
+    let parts = PlanParts {
         line: Line::Zero,
         rule: Rule::Given,
         period: HOUR,
         units,
         atoms,
-        lists: Lists::of(alloc, 1, 1)?,
+        lists,
         located,
         travel,
-    });
-    Ok(plan.ok())
+    };
+    match Plan::of(parts) {
+        Ok(plan) => Ok(plan),
+        Err(_) => unreachable!(),
+    }
 }

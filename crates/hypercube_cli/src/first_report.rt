@@ -1,7 +1,9 @@
-ghost use Rattle.std.specs.Prelude.{◌≡◌, ◌<◌, ◌∷◌, [], IfOk};
+ghost use Rattle.std.specs.Prelude.{◌≡◌, ◌<◌, ◌++◌, IfOk, length};
 ghost use Rattle.hyper_model.specs.Plans.{units};
+ghost use Rattle.hyper_model.specs.Measures.{IsInRange};
+ghost use Rattle.report_text.specs.Lines.{measure_line};
 ghost use Rattle.hypercube_cli.specs.FirstReport.{IsReport};
-ghost use Rattle.hypercube_cli.specs.OneUnit.{AreWeights, enclosed_from};
+ghost use Rattle.hypercube_cli.specs.OneUnit.{AreWeights, busy_part, millionths};
 
 use fixed_interval::{Weights, Wide};
 use hyper_model::{Enclosed, Found, Measure, Plan};
@@ -16,18 +18,28 @@ pub(crate) fn report(alloc: Global, plan: &Plan) -> Result<Vec<u8>, AllocError>
     ensures { IfOk result (λ text. IsReport plan.now text.items) }
 {
     let weights = weigh(alloc, plan)?;
-    let [loss, workload] = enclosed(&weights);
+    let found = busy_share(&weights);
     let mut text = Vec::new(alloc);
     push_head(&mut text, plan)?;
-    push_measure(&mut text, plan, loss)?;
-    push_measure(&mut text, plan, workload)?;
+    push_share(&mut text, plan, Measure::Loss, found)?;
+    push_share(&mut text, plan, Measure::Workload(0), found)?;
     text.extend_from_slice(b"end\n")?;
     Ok(text)
 }
 
+fn push_share(text: &mut Vec<u8>, plan: &Plan, measure: Measure, found: Found) -> Result<(), AllocError>
+    requires { 0 < units plan.now → IsInRange plan.now measure }
+    ensures { IfOk result (λ _. text.new.items ≡ text.old.items
+        ++ measure_line plan.now (record { measure = measure; found = found })) }
+{
+    let _units = plan.units();
+    push_measure(text, plan, Enclosed { measure, found })
+}
+
 /// The weights of the two words, the one with the unit free before the one with it busy.
 fn weigh(alloc: Global, plan: &Plan) -> Result<Weights, AllocError>
-    ensures { IfOk result (λ weights. AreWeights plan.now weights.items) }
+    ensures weighed { IfOk result (λ weights. AreWeights plan.now weights.items) }
+    ensures two { IfOk result (λ weights. length weights.items ≡ 2) }
 {
     let free = Wide::new(FREE_WEIGHT, FREE_WEIGHT);
     let busy = free.ratio(u64::from(plan.calls()), u64::from(plan.service()));
@@ -37,23 +49,13 @@ fn weigh(alloc: Global, plan: &Plan) -> Result<Weights, AllocError>
     Ok(weights)
 }
 
-/// The share of calls that are lost, and the share of time that the unit works.
-fn enclosed(weights: &Weights) -> [Enclosed; 2]
+/// The share of the busy word, in millionths.
+fn busy_share(weights: &Weights) -> Found
     requires { length weights.now.items ≡ 2 }
-    ensures { result ≡ enclosed_from weights.now.items }
+    ensures { result ≡ millionths (busy_part weights.now.items) }
 {
     let free = weights.get(0).wide();
     let busy = weights.get(1).wide();
     let (lo, hi) = busy.part_of(free).outward(1_000_000);
-    let found = Found::Ends(lo, hi);
-    [
-        Enclosed {
-            measure: Measure::Loss,
-            found,
-        },
-        Enclosed {
-            measure: Measure::Workload(0),
-            found,
-        },
-    ]
+    Found::Ends(lo, hi)
 }

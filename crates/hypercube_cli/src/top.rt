@@ -1,4 +1,4 @@
-ghost use Rattle.std.specs.Prelude.{◌≡◌, ◌≤◌, ◌→◌, ℕ, None, map, IfSome};
+ghost use Rattle.std.specs.Prelude.{◌≡◌, ◌≤◌, ◌⊎◌, ℕ, None, map, IfSome};
 ghost use Rattle.std.specs.String.{string_bytes};
 ghost use Rattle.std.specs.Io.KnownBytes.{Keeps};
 ghost use Rattle.outer_world.specs.Faults.{Rose};
@@ -6,7 +6,7 @@ ghost use Rattle.hypercube_cli.specs.Command.{command};
 ghost use Rattle.hypercube_cli.specs.Runs.{Ending, Finishes, RunsCommand, WritesProved, usage_ending};
 ghost use Rattle.hypercube_cli.specs.Untouched.{IsUntouched};
 
-use crate::answers::answer;
+use crate::answers::answer_text;
 use crate::words::{USAGE, read_words};
 use crate::Outcome;
 use outer_world::{ReadEnd, Shelf, Sink, WriteEnd, read_text, write_text};
@@ -54,7 +54,7 @@ pub fn hypercube<R: Threads + Sync, S: Shelf, K: Sink>(
         Err(ReadEnd::Failed) => return Outcome::ReadFault,
         Err(ReadEnd::NoMemory) => return Outcome::NoMemory,
     };
-    match answer(alloc, &text) {
+    match answer_text(alloc, &text) {
         Ok(answer) => finish(alloc, sink, answer.outcome, &answer.text),
         Err(_) => Outcome::NoMemory,
     }

@@ -1,5 +1,5 @@
 -- The fields of a cleaned record, one by one.
-use Rattle.std.proofs.Common.{◌≡◌, ◌∙◌, ◌<◌, ℕ, zero, suc, List, [], ◌∷◌, Option, Some, None, length, map, slice_index_or, ap, sym, arith}
+use Rattle.std.proofs.Common.{◌≡◌, ◌∙◌, ◌<◌, ℕ, zero, suc, List, [], ◌∷◌, Some, None, length, map, slice_index_or, ap, sym, arith}
 use Rattle.std.proofs.lemmas.List.{get_or-take, get_or_past}
 use Rattle.csv.specs.Records.{field_at}
 use Rattle.plan_text.specs.Rows.{Fields, cleaned, is_empty_field, without_blanks}
@@ -27,4 +27,4 @@ pub cleaned-field : (fields : Fields) (place : ℕ) → place < length (cleaned 
 cleaned-field fields place lt =
     let all : Fields = map without_blanks fields in
     sym (ap (λ (xs : Fields). slice_index_or xs place []) (drop_last_while-take is_empty_field all)
-        ∙ get_or-take (length (cleaned fields)) all place [] lt)
+    ∙ get_or-take (length (cleaned fields)) all place [] lt)

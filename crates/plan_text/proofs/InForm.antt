@@ -1,6 +1,6 @@
 -- What was read is in form.
-use Rattle.std.proofs.Common.{◌≡◌, ◌∙◌, ℕ, zero, suc, ◌+◌, ◌-◌, ◌<◌, ◌≤◌, List, [], ◌∷◌, ◌++◌, length, refl, sym, ap, subst, arith}
-use Rattle.std.specs.Prelude.{Bool, true, false, ◌&&◌, if◌then◌else◌, nat_le, nat_lt, Option, Some, None, Result, Ok, Err, All, AllPairs, IfOk}
+use Rattle.std.proofs.Common.{◌≡◌, ℕ, zero, suc, ◌+◌, ◌-◌, ◌<◌, ◌≤◌, List, [], ◌∷◌, ◌++◌, length, refl, sym, ap, arith}
+use Rattle.std.specs.Prelude.{Bool, true, false, ◌&&◌, if◌then◌else◌, nat_lt, Option, Some, None, Result, Ok, Err, All, AllPairs}
 use Rattle.std.specs.List.{list_any}
 use Rattle.std.specs.Option.{ok_or, option_to_list}
 use Rattle.std.specs.Str.{is_utf8}
@@ -16,13 +16,13 @@ use Rattle.plan_text.specs.Form.{AreNames, HasValues, IsInForm, IsName, at_of}
 use Rattle.plan_text.specs.Kinds.{has_field_count, is_passed_over, is_version_two, kind_of}
 use Rattle.plan_text.specs.Reading.{atom_of, group_of, line_of, located_of, names_at, period_of, prefer_of, reading_of, record_of, record_of_kind, records_after, row_reading, rule_of, travel_of, unit_of, version_of}
 use Rattle.plan_text.specs.Rows.{Fields}
-use Rattle.plan_text.specs.Steps.{◌>>=◌, Gives}
+use Rattle.plan_text.specs.Steps.{◌>>=◌}
 use Rattle.plan_text.specs.declared.kind.Kind.{Kind}
 use Rattle.plan_text.specs.declared.kind.Kind.TheVariants as kind
 use Rattle.plan_text.specs.declared.record.Record.{Record}
 use Rattle.plan_text.specs.declared.record.Record.TheVariants as rec
 use Rattle.plan_text.specs.declared.refusal.TextRefusal.{TextRefusal}
-use Rattle.plan_text.specs.declared.refusal.TextRefusal.TheVariants.{BadName, BadNumber, FieldCount, NotUtf8, TooManyRecords, UnknownKind}
+use Rattle.plan_text.specs.declared.refusal.TextRefusal.TheVariants.{BadName, BadNumber, FieldCount, NotUtf8, TooManyRecords}
 
 -- a step that gave something went on from what the step before it gave
 pub bind-ok : {A B E : Type 0} (given : Result A E) (next : A → Result B E) (y : B) → (given >>= next) ≡ Ok y
@@ -245,6 +245,7 @@ reading_of-fits number groups row r h = few (nat_lt 50000 number) refl h
         let (found, read, last) = bind-ok (record_of_kind (kind_of groups (field row 0)) number row) _ (Some r) q in
         let is : found ≡ r = cc in
         rw (sym is) (record_of_kind-fits (kind_of groups (field row 0)) number row found read)
+
     few : (many : Bool) → nat_lt 50000 number ≡ many
         → (if many then Err (TooManyRecords number) else if is_passed_over row then Ok None
         else (record_of_kind (kind_of groups (field row 0)) number row >>= λ found. Ok (Some found))) ≡ Ok (Some r)
@@ -274,7 +275,7 @@ records_after-in_form before (row ∷ rows) found h =
     let is : option_to_list read ++ others ≡ found = cc in
     let size : length (before ++ row ∷ []) ≡ length before + 1 = length-append before (row ∷ []) in
     let so : IsInFormFrom (length before + 1 + 1) others =
-        rw size at (records_after-in_form (before ++ row ∷ []) rows others more) in
+    rw size at (records_after-in_form (before ++ row ∷ []) rows others more) in
     rw (sym is) (behind read one others so)
   where
     behind : (read : Option Record) → row_reading before row ≡ Ok read → (others : List Record)
@@ -283,7 +284,7 @@ records_after-in_form before (row ∷ rows) found h =
     behind (Some r) one others so =
         let (fits, few) = reading_of-fits (length before + 1) (list_any is_version_two before) row r one in
         let first : IsFrom (length before + 1) r =
-            record { values = fits.values; low = omega (arith, fits.number); high = omega (arith, fits.number, few) } in
+        record { values = fits.values; low = omega (arith, fits.number); high = omega (arith, fits.number, few) } in
         record {
           each = All-cons (IsFrom (length before + 1)) r others first (later (length before + 1) others so.each);
           rising = AllPairs-cons (λ earlier later. at_of earlier < at_of later) r others
@@ -300,8 +301,7 @@ records_after-form rows found h =
       rising = so.rising;
     }
 
--- what a call answers is in form, where it gives the records of rows
-pub gives-form : {X : Type 0} (wants : TextRefusal) (view : X → List Record) (result : Result X TextRefusal) (rows : List Fields)
-    → Gives wants view result (records_after [] rows) → IfOk result (λ x. IsInForm (view x))
-gives-form wants view (Ok x) rows h = records_after-form rows (view x) h
-gives-form wants view (Err e) rows h = tt
+-- the values of a record that a row says are in range
+pub reading_of-values : (number : ℕ) (groups : Bool) (row : Fields) (r : Record)
+    → reading_of number groups row ≡ Ok (Some r) → HasValues r
+reading_of-values number groups row r h = (reading_of-fits number groups row r h).0.values

@@ -1,6 +1,6 @@
 -- Rows that are read one by one, each behind those before it.
-use Rattle.std.proofs.Common.{◌≡◌, ◌∙◌, ℕ, zero, suc, ◌+◌, ◌-◌, ◌<◌, ◌≤◌, List, [], ◌∷◌, ◌++◌, length, take, drop, refl, sym, ap, arith, append_assoc}
-use Rattle.std.specs.Prelude.{Bool, false, ◌||◌, Option, Some, None, Result, Ok, Err, IsOk, slice_index_or}
+use Rattle.std.proofs.Common.{◌≡◌, ◌∙◌, ℕ, zero, suc, ◌+◌, ◌<◌, ◌≤◌, List, [], ◌∷◌, ◌++◌, length, take, drop, refl, ap, arith, append_assoc}
+use Rattle.std.specs.Prelude.{Bool, false, ◌||◌, Option, Result, Ok, Err, IsOk, slice_index_or}
 use Rattle.std.specs.List.{list_any}
 use Rattle.std.specs.Option.{option_to_list}
 use Rattle.std.proofs.lemmas.List.{append-nil, drop_all, length-take-le, take_more}
@@ -26,7 +26,7 @@ pub any-more : (test : Fields → Bool) (rows : List Fields) (place : ℕ) → p
     → list_any test (take (place + 1) rows) ≡ (list_any test (take place rows) || test (slice_index_or rows place []))
 any-more test rows place lt =
     ap (list_any test) (take_more rows place [] lt) ∙ list_any-append test (take place rows) (slice_index_or rows place [] ∷ [])
-        ∙ or_false (list_any test (take place rows)) (test (slice_index_or rows place []))
+    ∙ or_false (list_any test (take place rows)) (test (slice_index_or rows place []))
   where
     or_false : (a b : Bool) → (a || (b || false)) ≡ (a || b)
     or_false a b = grind arith
@@ -78,29 +78,37 @@ first_behind before (row ∷ rows) e h = by (row_reading before row) refl h (fir
         → (others >>= λ found. Ok (option_to_list read ++ found)) ≡ Err e → others ≡ Err e
     none (Ok found) read q = absurd (cc)
     none (Err other) read q = q
+
     next : (read : Option Record) → row_reading before row ≡ Ok read
         → (place : ℕ) × IsFirstBehind (before ++ row ∷ []) rows place e → (place : ℕ) × IsFirstBehind before (row ∷ rows) place e
-    next read ok (place, first) = (suc place, record {
-      within = omega (arith, first.within);
-      refused = rw append_assoc at first.refused;
-      earlier = at_place read ok place first;
-    })
+    next read ok (place, first) = (
+      suc place,
+      record {
+        within = omega (arith, first.within);
+        refused = rw append_assoc at first.refused;
+        earlier = at_place read ok place first;
+      },
+    )
       where
         at_place : (read : Option Record) → row_reading before row ≡ Ok read → (place : ℕ)
             → IsFirstBehind (before ++ row ∷ []) rows place e → (k : ℕ) → k < suc place
             → IsOk (row_reading (before ++ take k (row ∷ rows)) (slice_index_or (row ∷ rows) k []))
         at_place read ok place first zero lt = rw (append-nil before, ok) refl
         at_place read ok place first (suc k) lt = rw append_assoc at (first.earlier k (omega arith))
+
     by : (given : Result (Option Record) TextRefusal) → row_reading before row ≡ given
         → (given >>= λ read. records_after (before ++ row ∷ []) rows >>= λ others. Ok (option_to_list read ++ others)) ≡ Err e
         → (records_after (before ++ row ∷ []) rows ≡ Err e → (place : ℕ) × IsFirstBehind (before ++ row ∷ []) rows place e)
         → (place : ℕ) × IsFirstBehind before (row ∷ rows) place e
     by (Ok read) ok q more = next read ok (more (none (records_after (before ++ row ∷ []) rows) read q))
-    by (Err other) refused q more = (0, record {
-      within = omega arith;
-      refused = let is : other ≡ e = cc in rw (append-nil before, refused) (ap Err is);
-      earlier = λ k lt. absurd (omega arith);
-    })
+    by (Err other) refused q more = (
+      0,
+      record {
+        within = omega arith;
+        refused = let is : other ≡ e = cc in rw (append-nil before, refused) (ap Err is);
+        earlier = λ k lt. absurd (omega arith);
+      },
+    )
 
 pub first_refused : (rows : List Fields) (e : TextRefusal) → records_after [] rows ≡ Err e → (place : ℕ) × IsFirstRefused rows place e
 first_refused rows e h =

@@ -8,7 +8,6 @@ ghost use Rattle.plan_text.specs.Steps.{Gives};
 ghost use Rattle.plan_text.specs.declared.refusal.TextRefusal.{TextRefusal};
 
 use crate::{Row, TextRefusal};
-
 use hyper_model::{Line, Name, NameEnd, Rule};
 use std::alloc::Global;
 
@@ -32,7 +31,13 @@ pub fn text_at<'a>(row: &'a Row<'_>, number: u32, place: usize) -> Result<&'a st
 
 /// The number that a field of record `number` says: one to nine decimal digits, leading zeros allowed, with a value from
 /// `least` to `most`.
-pub fn number_at(row: &Row<'_>, number: u32, place: usize, least: u32, most: u32) -> Result<u32, TextRefusal>
+pub fn number_at(
+    row: &Row<'_>,
+    number: u32,
+    place: usize,
+    least: u32,
+    most: u32,
+) -> Result<u32, TextRefusal>
     requires { place < usize.MAX }
     ensures { result ≡ spec.number_at least most number row.now place }
 {

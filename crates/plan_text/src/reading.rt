@@ -5,7 +5,6 @@ ghost use Rattle.plan_text.specs.Steps.{Gives};
 
 use crate::kind::{Kind, is_skipped, kind_of, may_have};
 use crate::{MOST_RECORDS, Record, Row, TextRefusal, line_at, name_at, number_at, rule_at};
-
 use hyper_model::Names;
 use std::alloc::Global;
 
@@ -14,7 +13,12 @@ use std::alloc::Global;
 /// A row with no field, or whose first field is `note`, gives none. A number beyond [`MOST_RECORDS`] is refused before
 /// the row is looked at; then an unknown kind is refused, then a wrong number of fields, then the fields from left to right.
 #[tactic(auto, unfolding(crate::specs::Reading::reading_of))]
-pub fn read_row(alloc: Global, row: &Row<'_>, number: u32, groups: bool) -> Result<Option<Record>, TextRefusal>
+pub fn read_row(
+    alloc: Global,
+    row: &Row<'_>,
+    number: u32,
+    groups: bool,
+) -> Result<Option<Record>, TextRefusal>
     ensures reading { Gives TextRefusal.NoMemory (λ read. read) result (reading_of number groups row.now) }
     ensures few { IfOk result (λ _. number ≤ MOST_RECORDS) }
 {

@@ -6,15 +6,31 @@ use hyper_model::{Line, Name, Names, Rule};
 #[derive(Debug, Drop)]
 pub enum Record {
     /// The version of the text.
-    Version { at: u32, number: u32 },
+    Version {
+        at: u32,
+        number: u32,
+    },
     /// What becomes of a call while all units are busy.
-    LineIs { at: u32, line: Line },
+    LineIs {
+        at: u32,
+        line: Line,
+    },
     /// Where the preference lists come from.
-    RuleIs { at: u32, rule: Rule },
+    RuleIs {
+        at: u32,
+        rule: Rule,
+    },
     /// The period of all rates, 1 to 100,000,000 seconds.
-    Period { at: u32, seconds: u32 },
+    Period {
+        at: u32,
+        seconds: u32,
+    },
     /// A unit, with its service rate, 1 to 1,000,000.
-    UnitIs { at: u32, name: Name, rate: u32 },
+    UnitIs {
+        at: u32,
+        name: Name,
+        rate: u32,
+    },
     /// An atom, with its call rate and its place, each 0 to 1,000,000, and the unit of its district.
     AtomIs {
         at: u32,
@@ -39,7 +55,15 @@ pub enum Record {
         thousandths: u32,
     },
     /// The units of an atom's preference list, one to twelve, each in a group of its own.
-    Prefer { at: u32, atom: Name, units: Names },
+    Prefer {
+        at: u32,
+        atom: Name,
+        units: Names,
+    },
     /// The next group of an atom's preference list, one to twelve units.
-    Group { at: u32, atom: Name, units: Names },
+    Group {
+        at: u32,
+        atom: Name,
+        units: Names,
+    },
 }

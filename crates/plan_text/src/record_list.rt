@@ -9,7 +9,6 @@ ghost use Rattle.plan_text.specs.declared.refusal.TextRefusal.{TextRefusal};
 
 use crate::kind::says_version_two;
 use crate::{MOST_TEXT_BYTES, Record, RowList, TextRefusal, read_row, rows};
-
 use std::alloc::Global;
 
 /// The records of a plan's text, in order, without notes and rows that have no field.
@@ -58,5 +57,4 @@ fn keep(found: &mut Vec<Record>, read: Option<Record>) -> Result<(), TextRefusal
 /// The refusal that rows give is that of a row before which none is refused.
 pub fn law_first_refusal()
     ensures { (rows : List Fields) (e : TextRefusal) → records_after [] rows ≡ Err e → (place : ℕ) × IsFirstRefused rows place e }
-{
-}
+{}

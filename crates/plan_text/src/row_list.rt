@@ -4,7 +4,6 @@ ghost use Rattle.csv.specs.Records.{fields_of};
 ghost use Rattle.plan_text.specs.Rows.{rows_of};
 
 use crate::cleaning::{count_fields, skip_marks, trimmed_at};
-
 use csv::{ByteRecord, ReaderBuilder};
 use std::alloc::{AllocError, Global};
 use std::marker::Model;

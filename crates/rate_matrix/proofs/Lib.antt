@@ -2,3 +2,5 @@
 pub mod BandLemmas
 pub mod RowFilling
 pub mod ExactMatrix
+pub mod Raising
+pub mod RowUpdates

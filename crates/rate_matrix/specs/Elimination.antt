@@ -9,6 +9,10 @@ use Rattle.hyper_model.specs.Tables.{RateTable, between_states}
 abbrev pub Entries : Type 0
 Entries = ℕ → ℕ → Ends
 
+-- two matrices with the same entries between different states
+pub record SameEntries (size : ℕ) (a b : Entries) : Type 0 where
+  pub same : (i j : ℕ) → i < size → j < size → i ≢ j → a i j ≡ b i j
+
 -- the sum of a row's entries to the first n states
 abbrev pub total_below : (ℕ → Ends) → ℕ → Ends
 total_below row n = between (sum_below n (λ k. (row k).lo)) (sum_below n (λ k. (row k).hi))
@@ -64,8 +68,8 @@ pub record IsWithin (size : ℕ) (caps : ℕ → ℕ) (entries : Entries) : Type
   pub ordered : (i j : ℕ) → i < size → j < size → i ≢ j → (entries i j).lo ≤ (entries i j).hi
   pub capped : (i j : ℕ) → i < size → j < size → i ≢ j → (entries i j).hi ≤ caps i
 
--- state m is in balance with the states before it, as far as the intervals tell: what may leave it is at
--- least what must come, and what must leave it is at most what may come
+-- state m is in balance with the states before it, as far as the intervals tell: what must leave it is at most
+-- what may come, and what must come is at most what may leave
 pub record HoldsAt (entries : Entries) (y : ℕ → ℕ) (m : ℕ) : Type 0 where
   pub least : y m * (total_below (entries m) m).lo ≤ sum_below m (λ i. y i * (entries i m).hi)
   pub most : sum_below m (λ i. y i * (entries i m).lo) ≤ y m * (total_below (entries m) m).hi

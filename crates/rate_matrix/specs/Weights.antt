@@ -1,8 +1,8 @@
 -- The weights of the states, from the entries that an elimination leaves: each state's weight follows from those
 -- of the states before it. All weights together stand for masses up to one common factor.
-use Rattle.std.specs.Prelude.{◌≡◌, ℕ, zero, suc, ◌-◌, ◌*◌, ◌/◌, ◌^◌, List, [], ◌∷◌, length}
+use Rattle.std.specs.Prelude.{◌≡◌, ℕ, zero, suc, ◌*◌, ◌/◌, ◌^◌, List, [], ◌∷◌}
 use Rattle.std.specs.Int.{div_ceil}
-use Rattle.fixed_interval.specs.Ends.{Ends, between, exact_ends, ratio_ends}
+use Rattle.fixed_interval.specs.Ends.{Ends, between, exact_ends}
 use Rattle.fixed_interval.specs.WeightList.{PushesShifted, ends_at}
 use Rattle.hyper_model.specs.Sums.{sum_below}
 use Rattle.rate_matrix.specs.Elimination.{Entries, total_below}
@@ -28,9 +28,3 @@ AreWeightsOf entries (suc zero) items = items ≡ exact_ends (2 ^ 52) ∷ []
 AreWeightsOf entries (suc (suc m)) items =
     (before : List Ends) × AreWeightsOf entries (suc m) before
     × PushesShifted before items (weight_of entries before (suc m))
-
--- One more weight, for the states in which a call waits: they have calls / (service - calls) times the mass
--- of the last state, in which all units are busy.
-abbrev pub GainsTail : ℕ → ℕ → List Ends → List Ends → Type 0
-GainsTail calls service old new =
-    PushesShifted old new (ratio_ends (ends_at old (length old - 1)) calls (service - calls))

@@ -1,5 +1,5 @@
 -- The lines of groups, written one unit after the other: what is still to come behind each place.
-use Rattle.std.proofs.Common.{◌≡◌, ℕ, suc, ◌+◌, ◌-◌, ◌<◌, ◌≤◌, ◌∙◌, ap, refl, sym, arith, rules, List, [], ◌∷◌, ◌++◌, Bool, true, false, length, drop, get_or, append_assoc, append-nil}
+use Rattle.std.proofs.Common.{◌≡◌, ℕ, ◌+◌, ◌-◌, ◌<◌, ◌≤◌, ◌∙◌, ap, refl, sym, arith, rules, List, [], ◌∷◌, ◌++◌, Bool, true, false, length, drop, get_or, append_assoc, append-nil}
 use Rattle.std.proofs.lemmas.List.{drop_more}
 use Rattle.std.specs.Prelude.{if◌then◌else◌}
 use Rattle.std.specs.List.{flat_map}
@@ -31,7 +31,7 @@ lines_behind first field group groups = search (rules, append_assoc)
 
 put_behind : (first : List ℕ) (field : ℕ → List ℕ) (n : ℕ) (begin : Bool) (group : List ℕ) (groups : List (List ℕ))
     → behind_first first field (put_before n begin (group ∷ groups))
-        ≡ field n ++ (break first begin ++ behind_first first field (group ∷ groups))
+    ≡ field n ++ (break first begin ++ behind_first first field (group ∷ groups))
 put_behind first field n true group groups =
     ap (λ t. field n ++ [] ++ 10 ∷ [] ++ t) (lines_behind first field group groups) ∙ search (rules, append_assoc, append-nil)
 put_behind first field n false group groups = search (rules, append_assoc)
@@ -39,7 +39,7 @@ put_behind first field n false group groups = search (rules, append_assoc)
 put_behind_some : (first : List ℕ) (field : ℕ → List ℕ) (n : ℕ) (begin : Bool) (groups : List (List ℕ)) (m : ℕ)
     → (group : List ℕ) × ((more : List (List ℕ)) × (groups ≡ (m ∷ group) ∷ more))
     → behind_first first field (put_before n begin groups)
-        ≡ field n ++ (break first begin ++ behind_first first field groups)
+    ≡ field n ++ (break first begin ++ behind_first first field groups)
 put_behind_some first field n begin groups m h = rw h.1.1 (put_behind first field n begin (m ∷ h.0) h.1.0)
 
 pub behind_is : (first : List ℕ) (field : ℕ → List ℕ) (n : ℕ) (ns : List ℕ) (begins : List Bool)
@@ -61,7 +61,7 @@ lines_some first field groups m h = rw h.1.1 (lines_behind first field (m ∷ h.
 -- behind the first unit's field all lines are still to come, but for that field and what is before it
 pub lines_start : (first : List ℕ) (field : ℕ → List ℕ) (members : List ℕ) (begins : List Bool) → 0 < length members
     → flat_map (line first field) (groups_from members begins)
-        ≡ first ++ (field (get_or members 0 0) ++ rest first field (drop 1 members) begins)
+    ≡ first ++ (field (get_or members 0 0) ++ rest first field (drop 1 members) begins)
 lines_start first field [] begins h = absurd (let f : ⊥ = omega arith in f)
 lines_start first field (m ∷ ms) begins h =
     lines_some first field (groups_from (m ∷ ms) begins) m (groups_head m ms begins)
@@ -76,15 +76,15 @@ rest_more first field ns more bs begins n begin e f = rw (e, f) refl
 pub rest_next : (first : List ℕ) (field : ℕ → List ℕ) (members : List ℕ) (begins : List Bool) (place : ℕ) (d : Bool)
     → 1 ≤ place → place < length members → length begins + 1 ≡ length members
     → rest first field (drop place members) (drop (place - 1) begins)
-        ≡ break first (get_or begins (place - 1) d)
-            ++ (field (get_or members place 0) ++ rest first field (drop (place + 1) members) (drop (place + 1 - 1) begins))
+    ≡ break first (get_or begins (place - 1) d)
+    ++ (field (get_or members place 0) ++ rest first field (drop (place + 1) members) (drop (place + 1 - 1) begins))
 rest_next first field members begins place d least small each =
     let early : place - 1 < length begins = omega arith in
     let step : place - 1 + 1 ≡ place + 1 - 1 = omega arith in
     rest_more first field (drop place members) (drop (place + 1) members) (drop (place - 1) begins) (drop (place + 1 - 1) begins)
-        (get_or members place 0) (get_or begins (place - 1) d)
-        (drop_more members place 0 small)
-        (drop_more begins (place - 1) d early ∙ ap (λ k. get_or begins (place - 1) d ∷ drop k begins) step)
+    (get_or members place 0) (get_or begins (place - 1) d)
+    (drop_more members place 0 small)
+    (drop_more begins (place - 1) d early ∙ ap (λ k. get_or begins (place - 1) d ∷ drop k begins) step)
 
 -- the text when the first unit is written
 pub start_text : (old one text first : List ℕ) (field : ℕ → List ℕ) (members : List ℕ) (begins : List Bool)

@@ -1,5 +1,5 @@
 -- A list of measures, item by item: the lines of those that are printed, and the first that is too wide.
-use Rattle.std.proofs.Common.{◌≡◌, ℕ, ◌+◌, ◌<◌, ◌≤◌, ◌∙◌, ap, refl, sym, arith, rules, List, [], ◌∷◌, ◌++◌, Bool, true, false, length, take, drop, get_or, append-nil, Option, Some, None}
+use Rattle.std.proofs.Common.{◌≡◌, ℕ, ◌+◌, ◌∙◌, ap, refl, arith, List, [], ◌∷◌, ◌++◌, Bool, true, false, take, drop, get_or, append-nil, Option, Some}
 use Rattle.std.specs.Prelude.{if◌then◌else◌, ◌&&◌, filter, find, slice_get}
 use Rattle.std.specs.List.{flat_map}
 use Rattle.std.proofs.lemmas.Grind.{flat_map-append}

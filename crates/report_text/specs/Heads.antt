@@ -1,4 +1,4 @@
--- The first lines of a report: how its lines are to be read, and the size and the rates of the plan.
+-- The first lines of a report: the version of its form, and the line, the size and the rates of the plan.
 use Rattle.std.specs.Prelude.{ℕ, List, ◌++◌, codes, decimal}
 use Rattle.hyper_model.specs.declared.kinds.Line.{Line}
 use Rattle.hyper_model.specs.declared.kinds.Line.TheVariants as line
@@ -22,7 +22,8 @@ size_lines p = count_line (codes "units") (units p) ++ count_line (codes "atoms"
 
 -- the rates of all calls and of all service
 abbrev pub rate_lines : PlanParts → List ℕ
-rate_lines p = count_line (codes "calls") (all_calls p) ++ count_line (codes "service") (all_service p)
+rate_lines p =
+    count_line (codes "calls") (all_calls p) ++ count_line (codes "service") (all_service p)
 
 abbrev pub head_bytes : PlanParts → List ℕ
 head_bytes p = count_line (codes "report") 1 ++ line_line p.line ++ size_lines p ++ rate_lines p

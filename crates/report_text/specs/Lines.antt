@@ -13,4 +13,5 @@ found_bytes scale (found.Ends lo hi) = ends_bytes lo hi scale
 found_bytes scale found.Without = codes "none"
 
 abbrev pub measure_line : PlanParts → Enclosed → List ℕ
-measure_line p e = label_bytes p e.measure ++ codes "," ++ found_bytes (scale_of e.measure) e.found ++ codes "\n"
+measure_line p e =
+    label_bytes p e.measure ++ codes "," ++ found_bytes (scale_of e.measure) e.found ++ codes "\n"

@@ -2,13 +2,14 @@ ghost use Rattle.std.specs.Prelude.{◌≡◌, ◌++◌, IfOk};
 ghost use Rattle.report_text.specs.Heads.{head_bytes, line_line, size_lines, rate_lines, count_line};
 
 use crate::number::push_decimal;
-
 use hyper_model::{Line, Plan};
 use std::alloc::AllocError;
 
-/// Puts the first six lines of a plan's report behind the text: the version of the text's form, what becomes of
-/// a call while all units are busy, how many units and atoms there are, and the rates of all calls and of all
-/// service per period.
+/// Puts the first six lines of a plan's report behind the text: the version of the text's form, what
+/// becomes of a call while all units are busy, how many units and atoms there are, and the rates of all
+/// calls and of all service per period.
+///
+/// Where memory ends, a part of them stands there.
 pub fn push_head(text: &mut Vec<u8>, plan: &Plan) -> Result<(), AllocError>
     ensures { IfOk result (λ _. text.new.items ≡ text.old.items ++ head_bytes plan.now) }
 {

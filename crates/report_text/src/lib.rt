@@ -16,3 +16,4 @@ pub use labels::{label, push_label};
 pub use measure_line::{push_ends, push_measure};
 pub use number::{number_text, push_number};
 pub use reporting::report;
+pub use width::is_too_wide;

@@ -4,11 +4,12 @@ ghost use Rattle.report_text.specs.Numbers.{IsScale, ends_bytes};
 ghost use Rattle.report_text.specs.Lines.{found_bytes, measure_line};
 
 use crate::{push_label, push_number};
-
 use hyper_model::{Enclosed, Found, Plan, scale};
 use std::alloc::AllocError;
 
 /// Puts the line of a measure behind the text: its label, and its low and high end, or `none`.
+///
+/// Where memory ends, a part of the line stands there.
 pub fn push_measure(text: &mut Vec<u8>, plan: &Plan, item: Enclosed) -> Result<(), AllocError>
     requires { IsInRange plan.now item.measure }
     ensures { IfOk result (λ _. text.new.items ≡ text.old.items ++ measure_line plan.now item) }
@@ -20,8 +21,10 @@ pub fn push_measure(text: &mut Vec<u8>, plan: &Plan, item: Enclosed) -> Result<(
     Ok(())
 }
 
-/// Puts two ends behind the text, with a comma between them. They are in thousandths (`scale` 1000) or in
-/// millionths (1,000,000).
+/// Puts two ends behind the text, with a comma between them, as in `0.333333,0.333334`. They are in
+/// thousandths (`scale` 1000) or in millionths (1,000,000).
+///
+/// Where memory ends, a part of them stands there.
 pub fn push_ends(text: &mut Vec<u8>, lo: u64, hi: u64, scale: u32) -> Result<(), AllocError>
     requires { IsScale scale }
     ensures { IfOk result (λ _. text.new.items ≡ text.old.items ++ ends_bytes lo hi scale) }

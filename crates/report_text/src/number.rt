@@ -14,8 +14,10 @@ pub fn number_text(alloc: Global, value: u64, scale: u32) -> Result<Vec<u8>, All
     Ok(text)
 }
 
-/// Puts a number of thousandths (`scale` 1000) or millionths (1,000,000) behind the text, as a decimal
-/// fraction of three or six places.
+/// Puts a number of thousandths (`scale` 1000) or of millionths (1,000,000) behind the text, as a
+/// decimal fraction of three or six places.
+///
+/// Where memory ends, a part of it stands there.
 pub fn push_number(text: &mut Vec<u8>, value: u64, scale: u32) -> Result<(), AllocError>
     requires { IsScale scale }
     ensures { IfOk result (λ _. text.new.items ≡ text.old.items ++ number_bytes value scale) }
@@ -62,4 +64,21 @@ fn digit(value: u64, power: u64) -> u8
     ensures { result ≡ 48 + value / power % 10 }
 {
     b'0' + (value / power % 10) as u8
+}
+
+#[cfg(test)]
+mod tests {
+    use super::*;
+    use std::test::Fail;
+
+    #[test]
+    fn prints_fractions(rt: HostRuntime) -> Result<(), Fail> {
+        let loss = number_text(rt.alloc(), 333_333, 1_000_000)?;
+        assert_eq!(rt; loss.as_slice(), b"0.333333".as_slice());
+        let queue = number_text(rt.alloc(), 999_998_000_002, 1_000_000)?;
+        assert_eq!(rt; queue.as_slice(), b"999998.000002".as_slice());
+        let travel = number_text(rt.alloc(), 299_987, 1000)?;
+        assert_eq!(rt; travel.as_slice(), b"299.987".as_slice());
+        Ok(())
+    }
 }

@@ -6,7 +6,6 @@ ghost use Rattle.report_text.specs.Labels.{atom_name};
 ghost use Rattle.report_text.specs.Lists.{all_list_lines, list_line, list_lines};
 
 use crate::labels::{push_atom_label, push_unit_label};
-
 use hyper_model::{Lists, Plan};
 use std::alloc::AllocError;
 
@@ -14,6 +13,7 @@ use std::alloc::AllocError;
 pub(crate) fn push_lists(text: &mut Vec<u8>, plan: &Plan) -> Result<(), AllocError>
     ensures { IfOk result (λ _. text.new.items ≡ text.old.items ++ all_list_lines plan.now) }
 {
+    // Asked for what it says of the plan: it is accepted, so its lists have its own units.
     let _calls = plan.calls();
     for j in 0..plan.atoms() {
         push_list(text, plan, j as u16)?;
@@ -56,7 +56,8 @@ fn all_begin(begins: &[bool]) -> bool
 fn push_prefer(text: &mut Vec<u8>, plan: &Plan, j: u16, members: &[u8]) -> Result<(), AllocError>
     requires atom { j < atoms plan.now }
     requires units { All (λ n. n < units plan.now) members.now }
-    ensures { IfOk result (λ _. text.new.items ≡ text.old.items ++ list_line plan.now (codes "prefer") j members.now) }
+    ensures { IfOk result (λ _.
+        text.new.items ≡ text.old.items ++ list_line plan.now (codes "prefer") j members.now) }
 {
     push_atom_label(text, b"prefer,", plan, j)?;
     for n in members {
@@ -66,16 +67,21 @@ fn push_prefer(text: &mut Vec<u8>, plan: &Plan, j: u16, members: &[u8]) -> Resul
     Ok(())
 }
 
-/// Puts a line for each group. Of each unit but the first, `begins` tells whether a group begins with it.
-fn push_groups(text: &mut Vec<u8>, plan: &Plan, j: u16, members: &[u8], begins: &[bool]) -> Result<(), AllocError>
+/// Puts a line for each group. Of each unit but the first, `begins` tells whether a group begins with
+/// it.
+fn push_groups(
+    text: &mut Vec<u8>,
+    plan: &Plan,
+    j: u16,
+    members: &[u8],
+    begins: &[bool],
+) -> Result<(), AllocError>
     requires atom { j < atoms plan.now }
     requires some { 0 < length members.now }
     requires one_each { length begins.now + 1 ≡ length members.now }
     requires units { All (λ n. n < units plan.now) members.now }
-    ensures {
-        IfOk result (λ _. text.new.items ≡ text.old.items
-            ++ flat_map (list_line plan.now (codes "group") j) (groups_from members.now begins.now))
-    }
+    ensures { IfOk result (λ _. text.new.items ≡ text.old.items
+        ++ flat_map (list_line plan.now (codes "group") j) (groups_from members.now begins.now)) }
 {
     push_atom_label(text, b"group,", plan, j)?;
     push_unit_label(text, b",", plan, members[0])?;
@@ -90,10 +96,9 @@ fn push_groups(text: &mut Vec<u8>, plan: &Plan, j: u16, members: &[u8], begins: 
 /// Where a group begins, ends the line and starts the next one.
 fn push_break(text: &mut Vec<u8>, plan: &Plan, j: u16, begins: bool) -> Result<(), AllocError>
     requires { j < atoms plan.now }
-    ensures {
-        IfOk result (λ _. text.new.items
-            ≡ text.old.items ++ (if begins then codes "\n" ++ (codes "group," ++ atom_name plan.now j) else []))
-    }
+    ensures { IfOk result (λ _. text.new.items
+        ≡ text.old.items
+        ++ (if begins then codes "\n" ++ (codes "group," ++ atom_name plan.now j) else [])) }
 {
     if !begins {
         return Ok(());

@@ -10,20 +10,24 @@ ghost use Rattle.report_text.specs.TooWide.{first_wide, EndsAt};
 use crate::preference_lines::push_lists;
 use crate::width::{check_widths, is_printed};
 use crate::{ReportEnd, Widths, push_head, push_measure};
-
 use hyper_model::{Enclosed, Enclosures, Plan};
 use std::alloc::{AllocError, Global};
 
-/// The report of a plan's measures, in the order of the list, or its summary: the head, and the measures of the
-/// whole region.
+/// The report of a plan's measures, in the order of the list, or its summary, which has the head and the
+/// measures of the whole region.
 ///
-/// There is none where the ends of a printed measure lie further apart than was asked, and the first such measure
-/// is told.
+/// There is none where the ends of a printed measure lie further apart than was asked: the first such
+/// measure is told.
 pub fn report(
-    alloc: Global, plan: &Plan, found: &Enclosures, widths: Widths, summary: bool,
+    alloc: Global,
+    plan: &Plan,
+    found: &Enclosures,
+    widths: Widths,
+    summary: bool,
 ) -> Result<Vec<u8>, ReportEnd>
     requires { All (λ e. IsInRange plan.now e.measure) found.now.items }
-    ensures text { IfOk result (λ text. text.items ≡ report_bytes plan.now found.now.items summary) }
+    ensures text { IfOk result (λ text.
+        text.items ≡ report_bytes plan.now found.now.items summary) }
     ensures narrow { OnOk result (first_wide widths summary found.now.items ≡ None) }
     ensures end { IfErr result (λ end. EndsAt (first_wide widths summary found.now.items) end) }
 {
@@ -34,31 +38,45 @@ pub fn report(
     }
 }
 
-fn report_text(alloc: Global, plan: &Plan, found: &Enclosures, summary: bool) -> Result<Vec<u8>, AllocError>
+fn report_text(
+    alloc: Global,
+    plan: &Plan,
+    found: &Enclosures,
+    summary: bool,
+) -> Result<Vec<u8>, AllocError>
     requires { All (λ e. IsInRange plan.now e.measure) found.now.items }
     ensures { IfOk result (λ text. text.items ≡ report_bytes plan.now found.now.items summary) }
 {
     let mut text = Vec::new(alloc);
     push_head(&mut text, plan)?;
-    push_lists_of_report(&mut text, plan, summary)?;
+    push_preferences(&mut text, plan, summary)?;
     push_measures(&mut text, plan, found, summary)?;
     text.extend_from_slice(b"end\n")?;
     Ok(text)
 }
 
-fn push_lists_of_report(text: &mut Vec<u8>, plan: &Plan, summary: bool) -> Result<(), AllocError>
-    ensures { IfOk result (λ _. text.new.items ≡ text.old.items ++ (if summary then [] else all_list_lines plan.now)) }
+/// Puts the lines of the preference lists, which a summary does not have.
+fn push_preferences(text: &mut Vec<u8>, plan: &Plan, summary: bool) -> Result<(), AllocError>
+    ensures { IfOk result (λ _.
+        text.new.items ≡ text.old.items ++ (if summary then [] else all_list_lines plan.now)) }
 {
-    if summary { Ok(()) } else { push_lists(text, plan) }
+    if summary {
+        Ok(())
+    } else {
+        push_lists(text, plan)
+    }
 }
 
+/// Puts the lines of the measures, of which a summary has those of the region alone.
 fn push_measures(
-    text: &mut Vec<u8>, plan: &Plan, found: &Enclosures, summary: bool,
+    text: &mut Vec<u8>,
+    plan: &Plan,
+    found: &Enclosures,
+    summary: bool,
 ) -> Result<(), AllocError>
     requires { All (λ e. IsInRange plan.now e.measure) found.now.items }
-    ensures {
-        IfOk result (λ _. text.new.items ≡ text.old.items ++ flat_map (measure_line plan.now) (printed summary found.now.items))
-    }
+    ensures { IfOk result (λ _. text.new.items
+        ≡ text.old.items ++ flat_map (measure_line plan.now) (printed summary found.now.items)) }
 {
     for place in 0..found.len() {
         push_printed(text, plan, found.get(place), summary)?;
@@ -66,12 +84,16 @@ fn push_measures(
     Ok(())
 }
 
-fn push_printed(text: &mut Vec<u8>, plan: &Plan, item: Enclosed, summary: bool) -> Result<(), AllocError>
+fn push_printed(
+    text: &mut Vec<u8>,
+    plan: &Plan,
+    item: Enclosed,
+    summary: bool,
+) -> Result<(), AllocError>
     requires { IsInRange plan.now item.measure }
-    ensures {
-        IfOk result (λ _. text.new.items
-            ≡ text.old.items ++ (if spec.is_printed summary item then measure_line plan.now item else []))
-    }
+    ensures { IfOk result (λ _. text.new.items
+        ≡ text.old.items
+        ++ (if spec.is_printed summary item then measure_line plan.now item else [])) }
 {
     if is_printed(item.measure, summary) {
         push_measure(text, plan, item)

@@ -1,17 +1,19 @@
-ghost use Rattle.std.specs.Prelude.{◌≡◌, ◌≤◌, ◌&&◌, ◌||◌, not, true, false, None, Some, IfErr, OnOk};
-ghost use Rattle.hyper_model.specs.declared.kinds.Found.TheVariants as found;
-ghost use Rattle.hyper_model.specs.Enclosures.{IsOrderedFound, IsOrderedEnclosed};
+ghost use Rattle.std.specs.Prelude.{◌≡◌, ◌&&◌, ◌||◌, not, true, false, None, Some, IfErr, OnOk};
+ghost use Rattle.hyper_model.specs.Enclosures.{IsOrderedEnclosed};
 ghost use Rattle.hyper_model.specs.Measures.{scale_of};
 ghost use Rattle.report_text.specs.Reports as spec;
-ghost use Rattle.report_text.specs.TooWide as spec_wide;
-ghost use Rattle.report_text.specs.TooWide.{first_wide, EndsAt};
+ghost use Rattle.report_text.specs.TooWide as limits;
+ghost use Rattle.report_text.specs.TooWide.{first_wide, is_wide, EndsAt};
 
 use crate::{ReportEnd, Widths};
-
 use hyper_model::{Enclosed, Enclosures, Found, Measure, scale};
 
 /// Ends at the first printed measure that is too wide.
-pub(crate) fn check_widths(found: &Enclosures, widths: Widths, summary: bool) -> Result<(), ReportEnd>
+pub(crate) fn check_widths(
+    found: &Enclosures,
+    widths: Widths,
+    summary: bool,
+) -> Result<(), ReportEnd>
     ensures narrow { OnOk result (first_wide widths summary found.now.items ≡ None) }
     ensures wide { IfErr result (λ end. EndsAt (first_wide widths summary found.now.items) end) }
 {
@@ -24,19 +26,28 @@ pub(crate) fn check_widths(found: &Enclosures, widths: Widths, summary: bool) ->
 /// Ends at a printed measure that is too wide.
 fn check_width(item: Enclosed, widths: Widths, summary: bool) -> Result<(), ReportEnd>
     requires { IsOrderedEnclosed item }
-    ensures narrow { OnOk result (spec.is_printed summary item && spec_wide.is_wide widths item ≡ false) }
+    ensures narrow { OnOk result (spec.is_printed summary item && is_wide widths item ≡ false) }
     ensures printed { IfErr result (λ _. spec.is_printed summary item ≡ true) }
-    ensures wide { IfErr result (λ _. spec_wide.is_wide widths item ≡ true) }
+    ensures wide { IfErr result (λ _. is_wide widths item ≡ true) }
     ensures end { IfErr result (λ end. EndsAt (Some item) end) }
 {
-    if !is_printed(item.measure, summary) {
-        return Ok(());
-    }
     match item.found {
-        Found::Ends(lo, hi) if exceeds(width_of(widths, item.measure), lo, hi) => {
+        Found::Ends(lo, hi) if is_printed(item.measure, summary) && is_too_wide(item, widths) => {
             Err(ReportEnd::TooWide(item.measure, lo, hi))
         }
         _ => Ok(()),
+    }
+}
+
+/// Whether the high end of the measure less its low end is more than the width asked of measures of its
+/// kind.
+pub fn is_too_wide(item: Enclosed, widths: Widths) -> bool
+    requires { IsOrderedEnclosed item }
+    ensures { result ≡ is_wide widths item }
+{
+    match (item.found, width_of(widths, item.measure)) {
+        (Found::Ends(lo, hi), Some(width)) => hi - lo > u64::from(width),
+        _ => false,
     }
 }
 
@@ -63,18 +74,11 @@ fn is_of_region(measure: Measure) -> bool
 
 /// The width asked of the measure, if any.
 fn width_of(widths: Widths, measure: Measure) -> Option<u32>
-    ensures { result ≡ spec_wide.width_of widths (scale_of measure) }
+    ensures { result ≡ limits.width_of widths (scale_of measure) }
 {
-    if scale(measure) == 1000 { widths.time } else { widths.share }
-}
-
-/// Whether the ends lie further apart than this width.
-fn exceeds(width: Option<u32>, lo: u64, hi: u64) -> bool
-    requires { lo ≤ hi }
-    ensures { result ≡ spec_wide.exceeds width (found.Ends lo hi) }
-{
-    match width {
-        Some(width) => hi - lo > u64::from(width),
-        None => false,
+    if scale(measure) == 1000 {
+        widths.time
+    } else {
+        widths.share
     }
 }

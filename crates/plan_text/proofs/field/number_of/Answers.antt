@@ -19,6 +19,6 @@ returns-in-Err c =
     let digits : all_ascii_digits c.args.text.now ≡ true = sym (list_all-digits c.args.text.now) ∙ search rules in
     let some : 0 < length c.args.text.now = search rules in
     let small : digits_value 10 c.args.text.now < 10 ^ 9 =
-        digits_value_short numerals c.args.text.now 9 digits (omega (arith, c.if-text-gt-MOST_DIGITS.false)) in
+    digits_value_short numerals c.args.text.now 9 digits (omega (arith, c.if-text-gt-MOST_DIGITS.false)) in
     let gives = parse_gives numerals 32 c.args.text.now c.parse.result c.parse.ensures.value.0 digits some (omega (arith, small)) in
     absurd (cc)

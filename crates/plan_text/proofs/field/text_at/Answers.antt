@@ -1,4 +1,3 @@
-use Rattle.std.proofs.Common.{◌≡◌, true, false}
 use Rattle.std.proofs.lemmas.Str.{is_utf8-from_IsUtf8}
 use Rattle.hyper_model.proofs.NameText.{no_utf8}
 use Rattle.plan_text.proofs.field.text_at.Goals as goal

@@ -1,4 +1,4 @@
-use Rattle.std.proofs.Common.{◌≡◌, ◌∙◌, ◌<◌, ◌+◌, ◌-◌, [], ◌∷◌, length, sym, arith}
+use Rattle.std.proofs.Common.{◌∙◌, ◌<◌, ◌-◌, [], ◌∷◌, length, sym, arith}
 use Rattle.std.proofs.lemmas.List.{length-append}
 use Rattle.std.proofs.lemmas.Result.{err_from_is_err_and}
 use Rattle.plan_text.specs.Fields.{name_at}
@@ -28,4 +28,4 @@ loop-place-preserved c =
 pub returns : goal.returns
 returns c =
     sym c.loop-place.invariant.read
-        ∙ names_at-done c.args.at c.args.row.now c.loop-place.place c.loop-place.names (omega (arith, c.loop-place-test.false, c.len-place-end.ensures))
+    ∙ names_at-done c.args.at c.args.row.now c.loop-place.place c.loop-place.names (omega (arith, c.loop-place-test.false, c.len-place-end.ensures))

@@ -1,4 +1,4 @@
-use Rattle.std.proofs.Common.{◌≡◌, ◌∙◌, ◌<◌, ◌≤◌, ◌+◌, [], length, slice_index_or, sym, ap, arith}
+use Rattle.std.proofs.Common.{◌≡◌, ◌∙◌, ◌<◌, ◌+◌, [], length, slice_index_or, sym, ap, arith}
 use Rattle.std.proofs.lemmas.Result.{err_from_is_err_and}
 use Rattle.plan_text.specs.Kinds.{is_version_two}
 use Rattle.plan_text.specs.Reading.{reading_of, records_after}
@@ -25,7 +25,7 @@ loop-place-preserved c =
     let lt : c.loop-place.place < length c.args.rows.now = omega (arith, c.loop-place-test.true, c.len-place-end.ensures) in
     let at = reading-at c.args.rows.now c.loop-place.place c.loop-place.groups c.row-row.result lt inv.groups c.row-row.ensures in
     let said : c.says_version_two-groups.result ≡ is_version_two (slice_index_or c.args.rows.now c.loop-place.place []) =
-        c.says_version_two-groups.ensures ∙ ap is_version_two c.row-row.ensures in
+    c.says_version_two-groups.ensures ∙ ap is_version_two c.row-row.ensures in
     record {
       few = omega (arith, c.in_ok-read.ensures.few);
       groups = rw (said, inv.groups) (sym (any-more is_version_two c.args.rows.now c.loop-place.place lt));
@@ -36,10 +36,10 @@ loop-place-preserved c =
 pub returns-clause-records : goal.returns-clause-records
 returns-clause-records c =
     sym c.loop-place.invariant.read
-        ∙ records_after-done c.args.rows.now c.loop-place.place c.loop-place.found.items (omega (arith, c.loop-place-test.false, c.len-place-end.ensures))
+    ∙ records_after-done c.args.rows.now c.loop-place.place c.loop-place.found.items (omega (arith, c.loop-place-test.false, c.len-place-end.ensures))
 
 pub returns-clause-form : goal.returns-clause-form
 returns-clause-form c =
     records_after-form c.args.rows.now c.loop-place.found.items
     (sym c.loop-place.invariant.read
-        ∙ records_after-done c.args.rows.now c.loop-place.place c.loop-place.found.items (omega (arith, c.loop-place-test.false, c.len-place-end.ensures)))
+    ∙ records_after-done c.args.rows.now c.loop-place.place c.loop-place.found.items (omega (arith, c.loop-place-test.false, c.len-place-end.ensures)))

@@ -10,4 +10,4 @@ pub returns : goal.returns
 returns c =
     let text = ap strip_bom c.skip_marks.ensures ∙ strip_bom-without_marks c.args.bytes.now in
     sym (map-map cleaned fields_of c.in_ok-items.items.items)
-        ∙ ap (map cleaned) (c.in_ok-items.ensures ∙ ap (λ (xs : List ℕ). records default_config xs) text)
+    ∙ ap (map cleaned) (c.in_ok-items.ensures ∙ ap (λ (xs : List ℕ). records default_config xs) text)

@@ -8,5 +8,5 @@ use Rattle.report_text.proofs.reporting.push_measures.Goals as goal
 pub loop-place-preserved : goal.loop-place-preserved
 loop-place-preserved c =
     let more = lines_next (measure_line c.args.plan.now) (is_printed c.args.summary) c.args.found.now.items c.loop-place.place
-        c.get.result c.get.ensures.item in
+    c.get.result c.get.ensures.item in
     grind (arith, common_steps, more, append_assoc)

@@ -8,15 +8,15 @@ pub returns-in_err-check_width-clause-wide : goal.returns-in_err-check_width-cla
 returns-in_err-check_width-clause-wide c =
     let first = first_wide c.args.widths c.args.summary c.args.found.now.items in
     let here : first ≡ Some c.get.result =
-        c.loop-place.invariant
-        ∙ find_here (is_printed c.args.summary) (is_wide c.args.widths) c.args.found.now.items c.loop-place.place c.get.result
-            c.get.ensures.item c.in_err-check_width.ensures.printed c.in_err-check_width.ensures.wide in
+    c.loop-place.invariant
+    ∙ find_here (is_printed c.args.summary) (is_wide c.args.widths) c.args.found.now.items c.loop-place.place c.get.result
+    c.get.ensures.item c.in_err-check_width.ensures.printed c.in_err-check_width.ensures.wide in
     let ends : EndsAt first c.in_err-check_width.field-0.0 =
-        ends_here first c.get.result c.in_err-check_width.field-0.0 here c.in_err-check_width.ensures.end in
+    ends_here first c.get.result c.in_err-check_width.field-0.0 here c.in_err-check_width.ensures.end in
     search (rules, ends)
 
 pub loop-place-preserved : goal.loop-place-preserved
 loop-place-preserved c =
     c.loop-place.invariant
     ∙ find_next (is_printed c.args.summary) (is_wide c.args.widths) c.args.found.now.items c.loop-place.place c.get.result
-        c.get.ensures.item c.in_ok-check_width.ensures.narrow
+    c.get.ensures.item c.in_ok-check_width.ensures.narrow

@@ -11,6 +11,6 @@ returns c =
     let shown = rw (← c.self.view_is) at c.requires.row in
     let inside : c.args.row < length c.self.inside.items.items = rw length-map at shown in
     let is : slice_index_or c.args.self.now c.args.row [] ≡ cleaned (fields_of c.index.result.now) =
-        rw (← c.self.view_is) (get_or-map (λ (source : csv.Row). cleaned (fields_of source)) c.self.inside.items.items c.args.row c.index.result.now [] inside
-            ∙ ap (λ (source : csv.Row). cleaned (fields_of source)) (sym c.index.ensures)) in
+    rw (← c.self.view_is) (get_or-map (λ (source : csv.Row). cleaned (fields_of source)) c.self.inside.items.items c.args.row c.index.result.now [] inside
+    ∙ ap (λ (source : csv.Row). cleaned (fields_of source)) (sym c.index.ensures)) in
     rw is (c.trimmed_at.ensures ∙ cleaned-field (fields_of c.index.result.now) c.args.place (rw is at c.requires.place))

@@ -1,0 +1,5 @@
+-- lemmas, each file on one subject
+pub mod NextWeight
+pub mod WeightLists
+pub mod Tail
+mod Worked

@@ -1,0 +1,29 @@
+//! The weights of a chain's states, from the entries that an elimination leaves, and their laws.
+#![tactic(auto)]
+
+ghost use Rattle.back_solve.specs.Laws.{AreWeightsDetermined, DependOnEntries, NextWeightFits, WeightsEnclose, WeightsInRange};
+ghost use Rattle.back_solve.specs.Tail.{TailEncloses, TailFits};
+
+/// The weights enclose, up to one common factor, all masses that the entries hold.
+///
+/// While they are made, each new weight has its ends in order and is below `2^100` before its shift, where the
+/// matrix has at most 4,096 states, entries up to `2^62`, and each state but the first has entries to earlier
+/// states that sum to at least `2^26`.
+pub fn law_weights()
+    ensures encloses { WeightsEnclose }
+    ensures in_range { WeightsInRange }
+    ensures next { NextWeightFits }
+{}
+
+/// A matrix has one list of weights, and it depends on the entries between different states alone.
+pub fn law_weights_determined()
+    ensures one { AreWeightsDetermined }
+    ensures entries { DependOnEntries }
+{}
+
+/// Weights that enclose the masses of the words enclose, with the tail's weight, also the mass of all states in
+/// which a call waits.
+pub fn law_tail()
+    ensures encloses { TailEncloses }
+    ensures next { TailFits }
+{}

@@ -1,0 +1,55 @@
+-- After any number of eliminations the ends are in order and under the caps, and what leads to earlier states stays.
+use Rattle.std.proofs.Common.{ℕ, zero, suc, ◌-◌, ◌<◌, ap, arith}
+use Rattle.fixed_interval.specs.Ends.{Ends}
+use Rattle.rate_matrix.specs.Elimination.{Entries, eliminated, left_after}
+use Rattle.state_reduction.specs.Laws.{IsRaisedFrom, AreSoundEntries, StaysSound}
+use Rattle.state_reduction.proofs.Sameness.{AreSoundEntries-same}
+use Rattle.state_reduction.proofs.Steps.{eliminated-within, eliminated-live, eliminated-grows}
+
+pub eliminated-sound : (size least : ℕ) (caps : ℕ → ℕ) (entries : Entries) (t : ℕ) → t < size
+    → AreSoundEntries size least caps entries → AreSoundEntries size least caps (eliminated entries caps t)
+eliminated-sound size least caps entries t alive sound = record {
+  within = eliminated-within size caps entries t alive sound.within;
+  live = eliminated-live size least caps entries t sound.within sound.live;
+}
+
+pub left_after-sound : (size least : ℕ) (caps : ℕ → ℕ) (entries : Entries) (k : ℕ) → k < size
+    → AreSoundEntries size least caps entries → AreSoundEntries size least caps (left_after entries caps size k)
+unfolding left_after
+left_after-sound size least caps entries zero some sound = record {
+  within = record { ordered = sound.within.ordered; capped = sound.within.capped };
+  live = record { leaves = sound.live.leaves };
+}
+left_after-sound size least caps entries (suc k) some sound =
+    eliminated-sound size least caps (left_after entries caps size k) (size - suc k) (omega arith)
+    (left_after-sound size least caps entries k (omega arith) sound)
+
+-- no low end is lower than it was at the beginning
+pub left_after-grows : (size least : ℕ) (caps : ℕ → ℕ) (entries : Entries) (k : ℕ) → k < size
+    → AreSoundEntries size least caps entries → IsRaisedFrom size entries (left_after entries caps size k)
+unfolding left_after
+left_after-grows size least caps entries zero some sound = record {
+  raises = λ i j row column apart. omega arith;
+}
+left_after-grows size least caps entries (suc k) some sound =
+    let before = left_after-grows size least caps entries k (omega arith) sound in
+    let here = left_after-sound size least caps entries k (omega arith) sound in
+    record {
+      raises = λ i j row column apart.
+          omega (
+            arith,
+            before.raises i j row column apart,
+            eliminated-grows size caps (left_after entries caps size k) (size - suc k) here.within i j row column apart,
+          );
+    }
+
+pub stays_sound : StaysSound
+stays_sound size least caps entries left k some sound same =
+    let grown = left_after-grows size least caps entries k some sound in (
+      AreSoundEntries-same size least caps (left_after entries caps size k) left same
+          (left_after-sound size least caps entries k some sound),
+      record {
+        raises = λ i j row column apart.
+            omega (arith, grown.raises i j row column apart, ap (λ (e : Ends). e.lo) (same.same i j row column apart));
+      },
+    )
