@@ -4,3 +4,4 @@ pub mod RowFilling
 pub mod ExactMatrix
 pub mod Raising
 pub mod RowUpdates
+pub mod RowsOfBand

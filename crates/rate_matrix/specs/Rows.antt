@@ -1,5 +1,5 @@
 -- Rows that follow each other, while one state is eliminated.
-use Rattle.std.specs.Prelude.{◌≡◌, ◌≢◌, ℕ, ◌+◌, ◌*◌, ◌/◌, ◌^◌, ◌<◌, ◌≤◌, List, length, slice_index, slice_index_or}
+use Rattle.std.specs.Prelude.{◌≡◌, ◌≢◌, ℕ, ◌+◌, ◌*◌, ◌^◌, ◌≤◌, List, length, slice_index, slice_index_or}
 use Rattle.fixed_interval.specs.Ends.{Ends, exact_ends}
 use Rattle.rate_matrix.specs.Elimination.{raised_by}
 use Rattle.rate_matrix.specs.Bands.{BandOfRows, HasRow, HasColumn, cell_of}
@@ -8,24 +8,26 @@ use Rattle.rate_matrix.specs.Bands.{BandOfRows, HasRow, HasColumn, cell_of}
 abbrev pub part_in : List Ends → ℕ → Ends
 part_in parts j = slice_index_or parts j (exact_ends 0)
 
--- rows of so many columns from `left` on
-abbrev pub rows_from : ℕ → ℕ → ℕ → List Ends → BandOfRows
-rows_from first left width cells = record { first = first; rows = length cells / width; left = left; width = width; cells = cells }
+-- so many rows, with so many columns from `left` on
+abbrev pub rows_from : ℕ → ℕ → ℕ → ℕ → List Ends → BandOfRows
+rows_from first rows left width cells = record { first = first; rows = rows; left = left; width = width; cells = cells }
 
 -- the rows of states before this one, which keep its column, with ends in order and within their caps
-pub record CanEliminate (state scale : ℕ) (flows : List ℕ) (parts : List Ends) (b : BandOfRows) : Type 0 where
+pub record CanEliminate (state scale : ℕ) (outflows : List ℕ) (shares : List Ends) (b : BandOfRows) : Type 0 where
   pub before : b.first + b.rows ≤ state
   pub column : HasColumn b state
-  pub parts : state ≤ length parts
-  pub flows : b.first + b.rows ≤ length flows
+  pub parts : state ≤ length shares
+  pub flows : b.first + b.rows ≤ length outflows
   pub cells : length b.cells ≡ b.rows * b.width
-  pub caps : (i : ℕ) → HasRow b i → scale * slice_index flows i ≤ 2 ^ 62
+  pub caps : (i : ℕ) → HasRow b i → scale * slice_index outflows i ≤ 2 ^ 62
   pub ordered : (i j : ℕ) → HasRow b i → HasColumn b j → i ≢ j → (cell_of b i j).lo ≤ (cell_of b i j).hi
-  pub capped : (i j : ℕ) → HasRow b i → HasColumn b j → i ≢ j → (cell_of b i j).hi ≤ scale * slice_index flows i
+  pub capped : (i j : ℕ) → HasRow b i → HasColumn b j → i ≢ j → (cell_of b i j).hi ≤ scale * slice_index outflows i
 
 -- the cells of the rows after its elimination
-pub record AreAfter (state scale : ℕ) (flows : List ℕ) (parts : List Ends) (b : BandOfRows) (cells : List Ends) : Type 0 where
+pub record AreAfter (state scale : ℕ) (outflows : List ℕ) (shares : List Ends) (b : BandOfRows) (cells : List Ends) : Type 0 where
   pub count : length cells ≡ length b.cells
   pub each : (i j : ℕ) → HasRow b i → HasColumn b j
       → cell_of (record b { cells = cells }) i j
-      ≡ raised_by (part_in parts) (cell_of b) (λ k. scale * slice_index flows k) state i j
+      ≡ raised_by (part_in shares) (cell_of b) (λ k. scale * slice_index outflows k) state i j
+  pub ordered : (i j : ℕ) → HasRow b i → HasColumn b j → i ≢ j
+      → (cell_of (record b { cells = cells }) i j).lo ≤ (cell_of (record b { cells = cells }) i j).hi

@@ -20,9 +20,9 @@ impl<G: Gate> Elimination<'_, G> {
     /// Changes rows of `width` columns from `left` on, the first of which is that of the state `first`.
     pub(crate) fn update_rows(&self, rows: &mut [Iv], first: usize, left: usize, width: usize)
         requires { CanEliminate self.now.state self.now.scale self.now.flows.now self.now.parts.now
-            (rows_from first left width rows.old) }
+            (rows_from first (length rows.old / width) left width rows.old) }
         ensures { AreAfter self.now.state self.now.scale self.now.flows.now self.now.parts.now
-            (rows_from first left width rows.old) rows.new }
+            (rows_from first (length rows.old / width) left width rows.old) rows.new }
     {
         for r in 0..rows.len() / width {
             self.update_row(&mut rows[r * width..(r + 1) * width], first + r, left);
@@ -31,9 +31,9 @@ impl<G: Gate> Elimination<'_, G> {
 
     fn update_row(&self, row: &mut [Iv], i: usize, left: usize)
         requires { CanEliminate self.now.state self.now.scale self.now.flows.now self.now.parts.now
-            (rows_from i left (length row.old) row.old) }
+            (rows_from i 1 left (length row.old) row.old) }
         ensures { AreAfter self.now.state self.now.scale self.now.flows.now self.now.parts.now
-            (rows_from i left (length row.old) row.old) row.new }
+            (rows_from i 1 left (length row.old) row.old) row.new }
     {
         let into = row[self.state - left];
         if into.hi() == 0 {
@@ -51,7 +51,9 @@ impl<G: Gate> Elimination<'_, G> {
         requires part { j < length self.now.parts.now }
         requires ordered { i ≢ j → old.lo ≤ old.hi }
         requires capped { i ≢ j → old.hi ≤ cap }
-        ensures { result ≡ (if i == j then old else raised old into (part_in self.now.parts.now j) cap) }
+        requires into { into.lo ≤ into.hi }
+        ensures ordered { i ≢ j → result.lo ≤ result.hi }
+        ensures entry { result ≡ (if i == j then old else raised old into (part_in self.now.parts.now j) cap) }
     {
         let part = self.parts[j];
         if i == j || part.hi() == 0 {
