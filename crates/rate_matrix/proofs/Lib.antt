@@ -4,4 +4,5 @@ pub mod RowFilling
 pub mod ExactMatrix
 pub mod Raising
 pub mod RowUpdates
+pub mod SlicePlaces
 pub mod RowsOfBand
