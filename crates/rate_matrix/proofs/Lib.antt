@@ -6,3 +6,4 @@ pub mod Raising
 pub mod RowUpdates
 pub mod SlicePlaces
 pub mod RowsOfBand
+pub mod RowChunks

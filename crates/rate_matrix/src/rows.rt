@@ -4,6 +4,8 @@ ghost use Rattle.rate_matrix.specs.Rows.{AreAfter, CanEliminate, part_in, rows_f
 
 use crate::gate::Gate;
 use fixed_interval::Iv;
+use std::thread;
+use std::thread::Threads;
 
 /// What the rows of a matrix need while one state is eliminated: its number, the scale and the outflows of
 /// the matrix, and the parts that go to the states before it.
@@ -14,6 +16,39 @@ pub(crate) struct Elimination<'a, G> {
     pub(crate) parts: &'a [Iv],
     pub(crate) gate: &'a G,
     pub(crate) place: usize,
+}
+
+impl<G: Gate + Sync> Elimination<'_, G> {
+    /// Changes the rows in chunks of so many, at the same time where there are several.
+    pub(crate) fn update_chunks<R: Threads + Sync>(
+        &self,
+        rt: &R,
+        rows: &mut [Iv],
+        chunk: usize,
+        first: usize,
+        left: usize,
+        width: usize,
+    )
+        requires rows { CanEliminate self.now.state self.now.scale self.now.flows.now self.now.parts.now
+            (rows_from first (length rows.old / width) left width rows.old) }
+        requires some { 0 < chunk }
+        requires small { chunk ≤ 4096 }
+        requires narrow { width ≤ 4096 }
+        requires few { self.now.state ≤ 4096 }
+        ensures { AreAfter self.now.state self.now.scale self.now.flows.now self.now.parts.now
+            (rows_from first (length rows.old / width) left width rows.old) rows.new }
+    {
+        let each = move |start: usize, part: &mut [Iv]|
+            requires rows { CanEliminate self.now.state self.now.scale self.now.flows.now self.now.parts.now
+                (rows_from (first + start / width) (length part.now / width) left width part.now) }
+            requires small { first + start / width ≤ 4096 }
+            ensures { AreAfter self.entry.now.state self.entry.now.scale self.entry.now.flows.now self.entry.now.parts.now
+                (rows_from (first + start / width) (length part.entry.now / width) left width part.entry.now) part.exit.now }
+        {
+            self.update_rows(part, first + start / width, left, width)
+        };
+        thread::for_each_chunk_mut(rt, rows, chunk * width, &each);
+    }
 }
 
 impl<G: Gate> Elimination<'_, G> {
