@@ -7,3 +7,5 @@ pub mod RowUpdates
 pub mod SlicePlaces
 pub mod RowsOfBand
 pub mod RowChunks
+pub mod BandUpdates
+pub mod MatrixUpdates

@@ -3,11 +3,15 @@ ghost use Rattle.fixed_interval.specs.Ends.{exact_ends};
 ghost use Rattle.hyper_model.specs.Tables.{between_states};
 ghost use Rattle.rate_matrix.specs.Bands.{HasColumn, HasRow, HasSameShape, band_entry, cell_of, has_column, place_in};
 ghost use Rattle.rate_matrix.specs.Elimination.{outflow_of};
+ghost use Rattle.rate_matrix.specs.Rows.{CanUpdate, IsUpdated};
 
 use crate::chain::Chain;
+use crate::gate::Gate;
+use crate::rows::Elimination;
 use fixed_interval::Iv;
 use std::alloc::{AllocError, Global};
 use std::marker::Model;
+use std::thread::Threads;
 
 /// The rows of the states from `first` on, and of each row the columns from `left` on.
 #[derive(Debug, Drop)]
@@ -107,6 +111,28 @@ impl Band {
             self.put(i, j, Iv::exact(scale * rate));
         }
         outflow
+    }
+
+    /// Changes the rows of the states before the one that is eliminated, by so many workers.
+    pub(crate) fn update<R: Threads + Sync, G: Gate + Sync>(
+        &mut self,
+        rt: &R,
+        workers: u32,
+        elimination: &Elimination<'_, G>,
+    )
+        requires workers { 1 ≤ workers }
+        requires state { elimination.now.state ≤ 4096 }
+        requires band { CanUpdate elimination.now.state elimination.now.scale elimination.now.flows.now
+            elimination.now.parts.now self.old }
+        ensures { IsUpdated elimination.now.state elimination.now.scale elimination.now.flows.now
+            elimination.now.parts.now self.old self.new }
+    {
+        let rows = self.rows.min(elimination.state.saturating_sub(self.first));
+        if rows == 0 || !self.has_column(elimination.state) {
+            return;
+        }
+        elimination
+            .update_first(rt, workers, &mut self.cells, self.first, rows, self.left, self.width);
     }
 }
 

@@ -7,6 +7,7 @@ mod exact;
 mod gate;
 mod matrix;
 mod rows;
+mod update;
 
 pub use chain::{Chain, law_descending};
 pub use gate::{Gate, OpenGate};

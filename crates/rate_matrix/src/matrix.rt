@@ -16,12 +16,12 @@ use std::marker::Model;
 #[derive(Debug, Drop)]
 pub struct RateMatrix {
     size: usize,
-    alive: usize,
-    scale: u64,
+    pub(crate) alive: usize,
+    pub(crate) scale: u64,
     packed: bool,
-    flows: Vec<u64>,
+    pub(crate) flows: Vec<u64>,
     levels: Vec<usize>,
-    bands: Vec<Band>,
+    pub(crate) bands: Vec<Band>,
 }
 
 impl Model for RateMatrix {

@@ -1,4 +1,4 @@
-ghost use Rattle.std.specs.Prelude.{◌≡◌, ◌≢◌, ℕ, ◌+◌, ◌-◌, ◌*◌, ◌/◌, ◌^◌, ◌<◌, ◌≤◌, ◌==◌, length, slice_index, if◌then◌else◌};
+ghost use Rattle.std.specs.Prelude.{◌≡◌, ◌≢◌, ℕ, ◌+◌, ◌-◌, ◌*◌, ◌/◌, ◌^◌, ◌<◌, ◌≤◌, ◌==◌, drop, length, slice_index, take, if◌then◌else◌};
 ghost use Rattle.rate_matrix.specs.Elimination.{raised};
 ghost use Rattle.rate_matrix.specs.Rows.{AreAfter, CanEliminate, part_in, rows_from};
 
@@ -9,6 +9,7 @@ use std::thread::Threads;
 
 /// What the rows of a matrix need while one state is eliminated: its number, the scale and the outflows of
 /// the matrix, and the parts that go to the states before it.
+#[derive_where(Clone, Copy)]
 pub(crate) struct Elimination<'a, G> {
     pub(crate) state: usize,
     pub(crate) scale: u64,
@@ -19,6 +20,33 @@ pub(crate) struct Elimination<'a, G> {
 }
 
 impl<G: Gate + Sync> Elimination<'_, G> {
+    /// Changes the first rows of these, in as many chunks as there are workers. One worker starts no thread.
+    pub(crate) fn update_first<R: Threads + Sync>(
+        &self,
+        rt: &R,
+        workers: u32,
+        cells: &mut [Iv],
+        first: usize,
+        rows: usize,
+        left: usize,
+        width: usize,
+    )
+        requires workers { 1 ≤ workers }
+        requires some { 0 < rows }
+        requires few { rows ≤ 4096 }
+        requires narrow { width ≤ 4096 }
+        requires state { self.now.state ≤ 4096 }
+        requires inside { rows * width ≤ length cells.old }
+        requires rows { CanEliminate self.now.state self.now.scale self.now.flows.now self.now.parts.now
+            (rows_from first rows left width (take (rows * width) cells.old)) }
+        ensures rows { AreAfter self.now.state self.now.scale self.now.flows.now self.now.parts.now
+            (rows_from first rows left width (take (rows * width) cells.old)) (take (rows * width) cells.new) }
+        ensures rest { drop (rows * width) cells.new ≡ drop (rows * width) cells.old }
+    {
+        let chunk = rows.div_ceil(workers as usize);
+        self.update_chunks(rt, &mut cells[..rows * width], chunk, first, left, width);
+    }
+
     /// Changes the rows in chunks of so many, at the same time where there are several.
     pub(crate) fn update_chunks<R: Threads + Sync>(
         &self,
