@@ -9,3 +9,4 @@ pub mod RowsOfBand
 pub mod RowChunks
 pub mod BandUpdates
 pub mod MatrixUpdates
+pub mod WordChains

@@ -3,3 +3,4 @@ pub mod Bands
 pub mod Rows
 pub mod Levels
 pub mod Weights
+pub mod WordChains

@@ -8,7 +8,9 @@ mod gate;
 mod matrix;
 mod rows;
 mod update;
+mod words;
 
 pub use chain::{Chain, law_descending};
 pub use gate::{Gate, OpenGate};
 pub use matrix::RateMatrix;
+pub use words::WordChain;
