@@ -11,3 +11,4 @@ pub mod BandUpdates
 pub mod MatrixUpdates
 pub mod WordChains
 pub mod LevelRanks
+pub mod PackedWords

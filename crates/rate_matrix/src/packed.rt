@@ -24,6 +24,7 @@ impl RateMatrix {
         ensures kept { IfOk result (λ m. (i j : ℕ) → i < m.size → j < m.size
             → IsKept m i j ↔ AreNeighbours chain.now.plan.now chain.now.order.now i j) }
     {
+        let _units = chain.order.units();
         let levels = levels_of(alloc, chain)?;
         let bands = bands_of(alloc, &levels, chain.plan.units())?;
         RateMatrix::exact(alloc, chain, true, levels, bands)
@@ -57,6 +58,7 @@ fn bands_of(alloc: Global, levels: &[usize], last: usize) -> Result<Vec<Band>, A
     Ok(bands)
 }
 
+#[tactic(auto, unfolding(crate::specs::LevelBands::level_band))]
 fn band_of_level(alloc: Global, levels: &[usize], level: usize) -> Result<Band, AllocError>
     requires level { level ≤ 12 }
     requires few { length levels.now ≤ 4096 }
@@ -64,8 +66,8 @@ fn band_of_level(alloc: Global, levels: &[usize], level: usize) -> Result<Band, 
 {
     let first = count_below(levels, level);
     let left = count_below(levels, level.saturating_sub(1));
-    let rows = count_below(levels, level + 1) - first;
-    let width = count_below(levels, level + 2) - left;
+    let rows = count_below(levels, level + 1).saturating_sub(first);
+    let width = count_below(levels, level + 2).saturating_sub(left);
     Band::zeros(alloc, first, rows, left, width)
 }
 
