@@ -10,5 +10,3 @@ pub mod RowChunks
 pub mod BandUpdates
 pub mod MatrixUpdates
 pub mod WordChains
-pub mod LevelRanks
-pub mod PackedWords

@@ -4,4 +4,3 @@ pub mod Rows
 pub mod Levels
 pub mod Weights
 pub mod WordChains
-pub mod LevelBands

@@ -6,7 +6,6 @@ mod chain;
 mod exact;
 mod gate;
 mod matrix;
-mod packed;
 mod rows;
 mod update;
 mod words;
