@@ -6,6 +6,7 @@ mod chain;
 mod exact;
 mod gate;
 mod matrix;
+mod packed;
 mod rows;
 mod update;
 mod words;
