@@ -1,5 +1,4 @@
 -- lemmas, each file on one subject
 pub mod NextWeight
 pub mod WeightLists
-pub mod Tail
 mod Worked

@@ -2,3 +2,7 @@
 pub mod Levels
 pub mod Ordering
 pub mod FirstGroups
+pub mod Algebra
+pub mod SetParts
+pub mod Places
+pub mod WeightParts

@@ -5,6 +5,7 @@ ghost use Rattle.hyper_model.specs.Words.{first_free as first_free_in, full_word
 ghost use Rattle.hyper_model.specs.Laws.{level as level_of};
 ghost use Rattle.hyper_model.specs.Rates.{up as rate_up};
 ghost use Rattle.busy_words.specs.Sets.{is_member};
+ghost use Rattle.busy_words.specs.WeightParts.{taken_shares};
 
 use crate::words::{is_busy, level};
 use hyper_model::{Lists, Plan};
@@ -42,9 +43,9 @@ pub fn takers(lists: &Lists, atom: usize, word: u16) -> u16
         if takers != 0 && lists.begins(atom, place) {
             return takers;
         }
-        let unit = lists.unit(atom, place);
-        if !is_busy(word, unit) {
-            takers |= 1 << unit;
+        let member = lists.unit(atom, place);
+        if !is_busy(word, member) {
+            takers |= 1 << member;
         }
     }
     takers
@@ -86,11 +87,24 @@ fn sent_to(plan: &Plan, atom: usize, word: u16, unit: u8) -> u64
     ensures most { result ≤ calls_of plan.now atom * split plan.now }
     ensures small { result < 2 ^ 40 }
 {
+    u64::from(plan.atom(atom).rate) * u64::from(taken_share(plan, atom, word, unit))
+}
+
+// How many of the `plan.split()` shares of a call of the atom go to this unit in the word.
+pub(crate) fn taken_share(plan: &Plan, atom: usize, word: u16, unit: u8) -> u32
+    requires atom { atom < atoms plan.now }
+    requires word { word < words plan.now }
+    requires unit { unit < units plan.now }
+    ensures shares { result ≡ taken_shares plan.now unit atom word }
+    ensures most { result ≤ split plan.now }
+    ensures small { result ≤ 27720 }
+{
     let takers = takers(lists_of(plan), atom, word);
-    if !is_busy(takers, unit) {
-        return 0;
+    if is_busy(takers, unit) {
+        share_of(plan, takers)
+    } else {
+        0
     }
-    u64::from(plan.atom(atom).rate) * u64::from(share_of(plan, takers))
 }
 
 // What each of these units has of `plan.split()` shares.

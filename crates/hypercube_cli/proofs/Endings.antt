@@ -1,10 +1,9 @@
 -- How a run ends, by what came of the reading and of the writing.
-use Rattle.std.proofs.Common.{◌≡◌, ℕ, ◌⊎◌, inl, inr, List, [], ◌∷◌, ◌++◌, refl, sym, ap, ◌∙◌, subst, append_nil}
+use Rattle.std.proofs.Common.{◌≡◌, ℕ, inl, inr, List, [], refl, sym, ◌∙◌, subst, append-nil}
 use Rattle.std.specs.Prelude.{Option, Some, None, Result, Ok, Err, All, IfSome, IfOk}
 use Rattle.std.specs.Option.{option_map}
 use Rattle.std.specs.Io.KnownBytes.{Appends, Keeps}
 use Rattle.outer_world.specs.Shelf.{text_named, LacksText}
-use Rattle.outer_world.specs.Sink.{AppendsFront}
 use Rattle.outer_world.specs.Taken.{taken, IsTaken}
 use Rattle.outer_world.specs.declared.named_text.NamedText.{NamedText}
 use Rattle.hyper_model.specs.declared.parts.PlanParts.{PlanParts}
@@ -14,17 +13,16 @@ use Rattle.hyper_model.proofs.PlanLaws.{has_solution}
 use Rattle.hypercube_cli.specs.declared.refusals.PlanRefusal.{PlanRefusal}
 use Rattle.hypercube_cli.specs.declared.outcome.Outcome.{Outcome}
 use Rattle.hypercube_cli.specs.declared.outcome.Outcome.TheVariants as outcome
-use Rattle.hypercube_cli.specs.declared.outcome.Refusal.TheVariants as refused
 use Rattle.hypercube_cli.specs.FirstForm.{plan_of_text}
-use Rattle.hypercube_cli.specs.FirstReport.{IsReport, report_lines}
+use Rattle.hypercube_cli.specs.FirstReport.{IsReport}
 use Rattle.hypercube_cli.specs.OneUnit.{IsOneUnit, one_unit_plan, AreWeights, enclosed_from}
-use Rattle.hypercube_cli.specs.Runs.{Ending, IsAnswer, IsEndingOfFound, IsEndingOf, Finishes, FinishesCommand, RunsCommand, WritesProved, absent_ending}
+use Rattle.hypercube_cli.specs.Runs.{Ending, IsAnswer, IsEndingOfFound, Finishes, RunsCommand, WritesProved, absent_ending}
 use Rattle.hypercube_cli.proofs.OneUnit.{one_unit_contained}
 use Rattle.hypercube_cli.proofs.OneUnitAccepted.{one_unit_accepted}
 
 appends_nothing : (known : Option (List ℕ)) → Appends known known []
 appends_nothing None = tt
-appends_nothing (Some xs) = sym (append_nil xs)
+appends_nothing (Some xs) = sym (append-nil xs)
 
 keeps_known : (known : Option (List ℕ)) → Keeps known known
 keeps_known None = tt
@@ -39,7 +37,8 @@ absent_runs (Some texts) asked file known is lacks =
     inl (record {
       ending = absent_ending;
       is_its = rw (is, lacks) refl;
-      finishes = inl (refl, appends_nothing known) })
+      finishes = inl (refl, appends_nothing known);
+    })
 
 -- want of memory before anything was written
 pub unwritten_runs : (told : Option (List NamedText)) (asked : Option (List ℕ)) (known : Option (List ℕ))
@@ -63,7 +62,8 @@ answer_runs (Some texts) asked file text ending result before after is read answ
     inl (record {
       ending = ending;
       is_its = rw is (answer_of_found (text_named texts file) text ending read answer);
-      finishes = finishes })
+      finishes = finishes;
+    })
 
 -- a run that ends Done wrote all of its text
 done_writes : (ending : Ending) (result : Outcome) (before after : Option (List ℕ)) → result ≡ outcome.Done
@@ -78,15 +78,16 @@ proved_report : (asked : Option (List ℕ)) (texts : List NamedText) (file whole
 proved_report asked texts file whole text p bytes before after is found read plan form report grew =
     let accepted = one_unit_accepted form.unit form.atom form.seconds form.serves form.placed form.called form.near in
     let shaped : (q : PlanParts) → q ≡ one_unit_plan form.unit form.atom form.seconds → AreWeights q report.weights
-        → HasSolution q × ((xs : List ℕ) (z : ℕ) → IsSolution q xs z → All (IsContained q (mass_in xs) z) (enclosed_from report.weights)) =
-        λ q same weighed.
-          let weights : AreWeights (one_unit_plan form.unit form.atom form.seconds) report.weights =
-              subst (λ (r : PlanParts). AreWeights r report.weights) same weighed in
-          subst (λ (r : PlanParts). HasSolution r
-              × ((xs : List ℕ) (z : ℕ) → IsSolution r xs z → All (IsContained r (mass_in xs) z) (enclosed_from report.weights)))
-            (sym same)
-            (has_solution (one_unit_plan form.unit form.atom form.seconds) accepted,
-             one_unit_contained form.unit form.atom form.seconds form.serves.low report.weights weights) in
+    → HasSolution q × ((xs : List ℕ) (z : ℕ) → IsSolution q xs z → All (IsContained q (mass_in xs) z) (enclosed_from report.weights)) =
+    λ q same weighed.
+    let weights : AreWeights (one_unit_plan form.unit form.atom form.seconds) report.weights =
+    subst (λ (r : PlanParts). AreWeights r report.weights) same weighed in
+    subst (λ (r : PlanParts). HasSolution r
+    × ((xs : List ℕ) (z : ℕ) → IsSolution r xs z → All (IsContained r (mass_in xs) z) (enclosed_from report.weights)))
+    (sym same) (
+      has_solution (one_unit_plan form.unit form.atom form.seconds) accepted,
+      one_unit_contained form.unit form.atom form.seconds form.serves.low report.weights weights,
+    ) in
     let holds = shaped p form.is report.weighed in
     record {
       file = file;
@@ -98,7 +99,8 @@ proved_report asked texts file whole text p bytes before after is found read pla
       read = rw read plan;
       written = subst (λ (bs : List ℕ). Appends before after bs) report.written grew;
       solvable = holds.0;
-      enclosed = holds.1 }
+      enclosed = holds.1;
+    }
 
 proved_answer : (asked : Option (List ℕ)) (texts : List NamedText) (file whole text : List ℕ)
     (given : Result PlanParts PlanRefusal) (ending : Ending) (before after : Option (List ℕ)) → asked ≡ Some file
@@ -128,4 +130,4 @@ answer_proved None asked file text ending result before after is read answer for
 answer_proved (Some texts) asked file text ending result before after is read answer form finishes = λ done.
     let whole = done_writes ending result before after done finishes in
     proved_found asked texts file text (text_named texts file) ending before after is refl read
-        (form whole.0) answer whole.0 whole.1
+    (form whole.0) answer whole.0 whole.1

@@ -1,6 +1,8 @@
 pub mod Endings
 pub mod FirstRecords
+pub mod FirstReportText
 pub mod FirstWeights
+pub mod OnePlan
 pub mod OneUnit
 pub mod OneUnitAccepted
 pub mod ReadRecords

@@ -1,6 +1,6 @@
 -- The one form of plan that is read so far: a unit, an atom, the travel within it, the unit's place there, and
 -- a list of the unit alone, as five records in this order.
-use Rattle.std.specs.Prelude.{◌≡◌, ℕ, Bool, false, ◌&&◌, if◌then◌else◌, ◌==◌, List, [], ◌∷◌, ◌++◌, length, nat_lt, count_by, Option, Some, None, Result, Ok, Err, codes, option_and_then}
+use Rattle.std.specs.Prelude.{ℕ, Bool, false, ◌&&◌, if◌then◌else◌, ◌==◌, List, [], ◌∷◌, ◌++◌, length, nat_lt, count_by, Option, Some, None, Result, Ok, Err, codes, option_and_then}
 use Rattle.std.specs.Option.{option_map, option_to_list}
 use Rattle.std.specs.Result.{result_ok}
 use Rattle.std.specs.Str.{bytes_eq}
@@ -21,7 +21,7 @@ abbrev pub records_said : List Fields → Option (List Record)
 records_said [] = Some []
 records_said (row ∷ rows) =
     option_and_then (λ read. option_map (λ rs. option_to_list read ++ rs) (records_said rows))
-      (result_ok (reading_of 1 false row))
+    (result_ok (reading_of 1 false row))
 
 -- a unit
 abbrev pub unit_said : Record → Option declared_unit.Unit
@@ -61,7 +61,7 @@ plan_said unit atom third fourth fifth =
 abbrev pub first_plan : List Record → Option PlanParts
 first_plan (first ∷ second ∷ third ∷ fourth ∷ fifth ∷ []) =
     option_and_then (λ unit. option_and_then (λ atom. plan_said unit atom third fourth fifth)
-      (atom_said unit.name second)) (unit_said first)
+    (atom_said unit.name second)) (unit_said first)
 first_plan rs = None
 
 abbrev pub is_unit_row : Fields → Bool

@@ -18,14 +18,15 @@ use Rattle.hyper_model.specs.Plans.{all_calls, all_service, IsBetween, IsPlaced}
 -- the plan of a unit that is always at its one atom
 abbrev pub one_unit_plan : declared_unit.Unit → Atom → ℕ → PlanParts
 one_unit_plan unit atom seconds = record {
-    line = line.Zero;
-    rule = rule.Given;
-    period = 3600;
-    units = unit ∷ [];
-    atoms = atom ∷ [];
-    lists = first_lists 1 1;
-    located = record { rows = 1; cols = 1; cells = 1000 ∷ [] };
-    travel = record { rows = 1; cols = 1; cells = seconds ∷ [] } }
+  line = line.Zero;
+  rule = rule.Given;
+  period = 3600;
+  units = unit ∷ [];
+  atoms = atom ∷ [];
+  lists = first_lists 1 1;
+  located = record { rows = 1; cols = 1; cells = 1000 ∷ [] };
+  travel = record { rows = 1; cols = 1; cells = seconds ∷ [] };
+}
 
 -- a plan of one unit and one atom, within the limits
 pub record IsOneUnit (p : PlanParts) : Type 0 where

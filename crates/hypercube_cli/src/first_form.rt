@@ -27,7 +27,9 @@ pub(crate) fn read_plan(alloc: Global, bytes: &[u8]) -> Result<Plan, PlanRefusal
     if bytes.len() > MOST_TEXT_BYTES {
         return Err(PlanRefusal::TooLong(bytes.len() as u64));
     }
-    let Ok(rows) = rows(alloc, bytes) else { return Err(PlanRefusal::NoMemory) };
+    let Ok(rows) = rows(alloc, bytes) else {
+        return Err(PlanRefusal::NoMemory)
+    };
     match read_first(alloc, &rows) {
         Ok(Some(plan)) => Ok(plan),
         Ok(None) => Err(PlanRefusal::NotBuilt(count_units(&rows) as u64)),
@@ -52,7 +54,9 @@ fn read_records(alloc: Global, rows: &RowList) -> Result<Option<Vec<Record>>, Al
 {
     let mut found = Vec::new(alloc);
     for place in 0..rows.len() {
-        let Some(read) = record_said(alloc, &rows.row(place))? else { return Ok(None) };
+        let Some(read) = record_said(alloc, &rows.row(place))? else {
+            return Ok(None)
+        };
         keep(&mut found, read)?;
     }
     Ok(Some(found))
@@ -83,13 +87,21 @@ fn first_plan(alloc: Global, records: &[Record]) -> Result<Option<Plan>, AllocEr
     ensures plan { IfOk result (λ plan. plan ≡ spec.first_plan records.now) }
     ensures form { IfOk result (λ plan. IfSome plan IsOneUnit) }
 {
-    let [first, second, third, fourth, fifth] = records else { return Ok(None) };
-    let Some(unit) = unit_said(alloc, first)? else { return Ok(None) };
-    let Some(atom) = atom_said(alloc, &unit.name, second)? else { return Ok(None) };
+    let [first, second, third, fourth, fifth] = records else {
+        return Ok(None)
+    };
+    let Some(unit) = unit_said(alloc, first)? else {
+        return Ok(None)
+    };
+    let Some(atom) = atom_said(alloc, &unit.name, second)? else {
+        return Ok(None)
+    };
     if !is_placed(&unit.name, &atom.name, fourth) || !is_listed(&unit.name, &atom.name, fifth) {
         return Ok(None);
     }
-    let Some(seconds) = seconds_said(&atom.name, third) else { return Ok(None) };
+    let Some(seconds) = seconds_said(&atom.name, third) else {
+        return Ok(None)
+    };
     let plan = one_unit_plan(alloc, unit, atom, seconds)?;
     Ok(Some(plan))
 }
@@ -97,7 +109,9 @@ fn first_plan(alloc: Global, records: &[Record]) -> Result<Option<Plan>, AllocEr
 fn unit_said(alloc: Global, item: &Record) -> Result<Option<Unit>, AllocError>
     ensures { IfOk result (λ unit. unit ≡ spec.unit_said item.now) }
 {
-    let Record::UnitIs { name, rate, .. } = item else { return Ok(None) };
+    let Record::UnitIs { name, rate, .. } = item else {
+        return Ok(None)
+    };
     let name = name.copied(alloc)?;
     Ok(Some(Unit { name, rate: *rate }))
 }
@@ -134,7 +148,10 @@ fn seconds_said(atom: &Name, item: &Record) -> Option<u32>
 {
     match item {
         Record::Travel {
-            from, to, seconds, ..
+            from,
+            to,
+            seconds,
+            ..
         } if from == atom && to == atom => Some(*seconds),
         _ => None,
     }

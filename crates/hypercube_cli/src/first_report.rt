@@ -27,7 +27,12 @@ pub(crate) fn report(alloc: Global, plan: &Plan) -> Result<Vec<u8>, AllocError>
     Ok(text)
 }
 
-fn push_share(text: &mut Vec<u8>, plan: &Plan, measure: Measure, found: Found) -> Result<(), AllocError>
+fn push_share(
+    text: &mut Vec<u8>,
+    plan: &Plan,
+    measure: Measure,
+    found: Found,
+) -> Result<(), AllocError>
     requires { 0 < units plan.now → IsInRange plan.now measure }
     ensures { IfOk result (λ _. text.new.items ≡ text.old.items
         ++ measure_line plan.now (record { measure = measure; found = found })) }

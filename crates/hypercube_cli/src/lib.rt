@@ -6,6 +6,8 @@ mod first_form;
 mod first_report;
 mod outcome;
 mod refusals;
+#[cfg(test)]
+mod tests;
 mod top;
 mod words;
 

@@ -48,7 +48,11 @@ impl PlanRefusal {
 }
 
 /// The line that tells of a refused plan. The place is 1 for the plan that is solved.
-pub(crate) fn refusal_text(alloc: Global, place: u32, refusal: PlanRefusal) -> Result<Vec<u8>, AllocError>
+pub(crate) fn refusal_text(
+    alloc: Global,
+    place: u32,
+    refusal: PlanRefusal,
+) -> Result<Vec<u8>, AllocError>
     ensures { IfOk result (λ text. text.items ≡ refusal_line place refusal) }
 {
     let mut digits = Buffer::new();

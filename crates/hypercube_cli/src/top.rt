@@ -6,9 +6,9 @@ ghost use Rattle.hypercube_cli.specs.Command.{command};
 ghost use Rattle.hypercube_cli.specs.Runs.{Ending, Finishes, RunsCommand, WritesProved, usage_ending};
 ghost use Rattle.hypercube_cli.specs.Untouched.{IsUntouched};
 
+use crate::Outcome;
 use crate::answers::answer_text;
 use crate::words::{USAGE, read_words};
-use crate::Outcome;
 use outer_world::{ReadEnd, Shelf, Sink, WriteEnd, read_text, write_text};
 use std::alloc::Global;
 use std::thread::Threads;

@@ -4,7 +4,8 @@ ghost use Rattle.std.specs.String.{string_bytes};
 ghost use Rattle.hypercube_cli.specs.Command.{command, has_name_length};
 
 /// What is written where the words are no command.
-pub(crate) const USAGE: &str = "usage: hypercube solve FILE | compare STUDY | make UNITS NUMBER [--width W] [--time-width W] [--workers N] [--summary]\n";
+pub(crate) const USAGE: &str =
+    "usage: hypercube solve FILE | compare STUDY | make UNITS NUMBER [--width W] [--time-width W] [--workers N] [--summary]\n";
 
 /// The file that the words ask to solve, where they are `solve FILE` and nothing else.
 pub(crate) fn read_words(words: &[String]) -> Option<&str>

@@ -1,6 +1,6 @@
-use Rattle.std.proofs.Common.{◌≡◌, ℕ, ◌-◌, ◌^◌, ◌<◌, ◌≤◌, List, length, drop, not, refl, sym, ap, ◌∙◌, subst, arith}
-use Rattle.std.specs.Prelude.{◌↔◌, Option, Some, None}
-use Rattle.hyper_model.specs.Groups.{list_of, row_of, member_at}
+use Rattle.std.proofs.Common.{◌≡◌, ◌-◌, ◌^◌, drop, not, sym, ap, ◌∙◌, subst, arith}
+use Rattle.std.specs.Prelude.{◌↔◌, Some, None}
+use Rattle.hyper_model.specs.Groups.{list_of, row_of}
 use Rattle.hyper_model.specs.Words.{is_busy, first_free}
 use Rattle.busy_words.proofs.FirstGroups.{first_none_full, found_here, found_none, found_later, list_reaches, list_ends, member_below}
 use Rattle.busy_words.proofs.dispatch.first_free.Goals as goal

@@ -1,4 +1,4 @@
-use Rattle.std.proofs.Common.{◌≡◌, ℕ, ◌*◌, ◌/◌, ◌<◌, ap, ◌∙◌, arith}
+use Rattle.std.proofs.Common.{◌*◌, ◌/◌, ap, ◌∙◌, arith}
 use Rattle.hyper_model.specs.Plans.{split}
 use Rattle.hyper_model.specs.Words.{taker_count}
 use Rattle.hyper_model.proofs.Takers.{portion_is}

@@ -1,12 +1,9 @@
-use Rattle.std.proofs.Common.{◌≡◌, ℕ, suc, ◌+◌, ◌*◌, ◌%◌, ◌^◌, ◌<◌, ◌≤◌, not, eqb, true, false, true≢false, List, length, refl, sym, ap, ◌∙◌, arith, eq-eqb, Bool, ◌⊎◌, inl, inr}
-use Rattle.std.proofs.lemmas.Bool.{not-true}
-use Rattle.std.proofs.lemmas.List.Elements.{All-get_or}
+use Rattle.std.proofs.Common.{◌≡◌, ℕ, suc, ◌+◌, ◌*◌, ◌%◌, ◌^◌, ◌<◌, not, eqb, true, false, true≢false, length, sym, ap, ◌∙◌, arith, eq-eqb, Bool, ◌⊎◌, inl, inr}
 use Rattle.std.proofs.lemmas.Nat.{or_lt}
 use Rattle.std.proofs.Math.Pow.{pow-lt}
 use Rattle.std.specs.Int.Bits.{bit_or}
-use Rattle.hyper_model.specs.Groups.{GroupLists, IsRegular, IsGrouped, row_of, list_of, member_at, begins_at, groups_in, no_row}
-use Rattle.hyper_model.specs.Words.{is_free, is_taker}
-use Rattle.busy_words.proofs.FirstGroups.{IsCarried, search_busy, search_free, search_stops, search_ends, takers_none_full, list_reaches, list_ends, member_below}
+use Rattle.hyper_model.specs.Groups.{list_of, begins_at, groups_in}
+use Rattle.busy_words.proofs.FirstGroups.{search_busy, search_free, search_stops, search_ends, takers_none_full, list_reaches, list_ends, member_below}
 use Rattle.busy_words.proofs.dispatch.takers.Goals as goal
 use Rattle.busy_words.proofs.dispatch.takers.Goals.{else-takers-ne0-via-then-takers-ne0+else-begins, else-takers-ne0-via-else-takers-ne0, then-not-is_busy, else-not-is_busy}
 
@@ -14,7 +11,7 @@ pub is_busy-requires : goal.is_busy-requires
 is_busy-requires c =
     omega (
       arith,
-      c.unit-unit.ensures,
+      c.unit-member.ensures,
       c.units-place-end.ensures.most,
       c.units-place-end.ensures.units,
       member_below c.args.lists.now c.units-place-end.ensures.regular c.args.atom c.loop-place.place c.requires.atom
@@ -25,7 +22,7 @@ pub overflow_shl-takers : goal.overflow_shl-takers
 overflow_shl-takers c =
     omega (
       arith,
-      c.unit-unit.ensures,
+      c.unit-member.ensures,
       c.units-place-end.ensures.most,
       c.units-place-end.ensures.units,
       member_below c.args.lists.now c.units-place-end.ensures.regular c.args.atom c.loop-place.place c.requires.atom
@@ -63,32 +60,32 @@ loop-place-preserved c =
       | else-takers-ne0-via-then-takers-ne0+else-begins w ↦ inr (sym w.if-begins.ensures)
       | else-takers-ne0-via-else-takers-ne0 w ↦ inl w.if-takers-ne0.false
     ]) in
-    let unit_in : c.unit-unit.result < lists.units =
+    let unit_in : c.unit-member.result < lists.units =
     omega (
       arith,
-      c.unit-unit.ensures,
+      c.unit-member.ensures,
       member_below lists regular c.args.atom c.loop-place.place c.requires.atom place c.requires.grouped,
     ) in
     elim c.if-not-is_busy.branch [
       | then-not-is_busy w ↦
-          let small : c.unit-unit.result < 16 =
+          let small : c.unit-member.result < 16 =
           omega (arith, c.units-place-end.ensures.most, c.units-place-end.ensures.units) in
-          let bit : 1 * 2 ^ c.unit-unit.result % 65536 ≡ 2 ^ c.unit-unit.result = omega (arith, pow-lt small) in
-          let more : c.if-not-is_busy.takers ≡ bit_or c.loop-place.takers (2 ^ c.unit-unit.result) =
+          let bit : 1 * 2 ^ c.unit-member.result % 65536 ≡ 2 ^ c.unit-member.result = omega (arith, pow-lt small) in
+          let more : c.if-not-is_busy.takers ≡ bit_or c.loop-place.takers (2 ^ c.unit-member.result) =
           w.takers-is ∙ ap (bit_or c.loop-place.takers) bit in
           record {
             carried = rw next
-                (search_free lists c.args.atom c.args.word c.loop-place.place c.loop-place.takers c.unit-unit.result
-                c.if-not-is_busy.takers inside c.unit-unit.ensures go
+                (search_free lists c.args.atom c.args.word c.loop-place.place c.loop-place.takers c.unit-member.result
+                c.if-not-is_busy.takers inside c.unit-member.ensures go
                 (ap not (sym c.is_busy.ensures ∙ w.if-not-is_busy.true)) more c.loop-place.invariant.carried);
             below = rw more
-                (or_lt lists.units c.loop-place.takers (2 ^ c.unit-unit.result) c.loop-place.invariant.below
+                (or_lt lists.units c.loop-place.takers (2 ^ c.unit-member.result) c.loop-place.invariant.below
                 (pow-lt unit_in));
           }
       | else-not-is_busy w ↦ record {
         carried = rw (next, w.takers-is)
-            (search_busy lists c.args.atom c.args.word c.loop-place.place c.loop-place.takers c.unit-unit.result inside
-            c.unit-unit.ensures go (ap not (sym c.is_busy.ensures ∙ w.if-not-is_busy.false))
+            (search_busy lists c.args.atom c.args.word c.loop-place.place c.loop-place.takers c.unit-member.result inside
+            c.unit-member.ensures go (ap not (sym c.is_busy.ensures ∙ w.if-not-is_busy.false))
             c.loop-place.invariant.carried);
         below = rw w.takers-is c.loop-place.invariant.below;
       }

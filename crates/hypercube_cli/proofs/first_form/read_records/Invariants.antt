@@ -8,4 +8,5 @@ use Rattle.hypercube_cli.proofs.first_form.read_records.Given as goal
 abbrev pub invariant-loop-place : goal.invariant-loop-place
 invariant-loop-place l = record {
   said : behind l.found.items (records_said (drop l.place l.rows)) ≡ records_said l.rows;
-  values : All HasValues l.found.items }
+  values : All HasValues l.found.items;
+}
