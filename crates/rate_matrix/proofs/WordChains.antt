@@ -48,8 +48,7 @@ module _ (p : PlanParts) (order : WordOrder) (accepted : IsAccepted p) (h : IsIn
       let n = busy_exists (units p) (word_at order m) below (first_none m l pos) in
       let next : turned (word_at order m) n.0 < 2 ^ units p = turned_lt (units p) (word_at order m) n.0 below n.1 in
       let to = rank_of (units p) (turned (word_at order m) n.0) in
-      let to_word : word_at order (rank_of (units p) (turned (word_at order m) n.0)) ≡ turned (word_at order m) n.0 = inverse.to_back (turned (word_at order m) n.0) next in
-      (
+      let to_word : word_at order (rank_of (units p) (turned (word_at order m) n.0)) ≡ turned (word_at order m) n.0 = inverse.to_back (turned (word_at order m) n.0) next in (
         rank_of (units p) (turned (word_at order m) n.0),
         elim (cases_lt (rank_of (units p) (turned (word_at order m) n.0)) m) [
           | inl k ↦ k
