@@ -8,6 +8,8 @@
 
 mod calls;
 mod rounding;
+#[cfg(test)]
+mod tests;
 mod units;
 
 pub use calls::{full_part, loss_or_delay, mean_wait, queue_length};
