@@ -9,6 +9,8 @@ mod matrix;
 mod packed;
 mod rows;
 mod sharing;
+#[cfg(test)]
+mod tests;
 mod update;
 mod words;
 
