@@ -1,10 +1,10 @@
 -- A test over things that are taken one by one, each behind those before it.
 use Rattle.std.proofs.Common.{◌≡◌, ◌∙◌, ◌⊎◌, ℕ, zero, suc, ◌+◌, ◌<◌, ◌≤◌, List, [], ◌∷◌, ◌++◌, length, get_or, take, drop, refl, sym, inl, inr, arith, append_assoc}
-use Rattle.std.specs.Prelude.{Option, Some, None}
+use Rattle.std.specs.Prelude.{All, Option, Some, None}
 use Rattle.std.specs.List.{filter_map}
 use Rattle.std.specs.Option.{option_or, option_to_list}
 use Rattle.std.proofs.lemmas.List.{append-nil, drop_all, drop_more, take_more}
-use Rattle.std.proofs.lemmas.List.Elements.{filter_map-append}
+use Rattle.std.proofs.lemmas.List.Elements.{All-cons, All-head, All-nil, All-tail, filter_map-append}
 use Rattle.plan_text.specs.Steps.{first_over}
 
 -- what is left, where x is at place i
@@ -49,18 +49,41 @@ kept-more {A} {B} f xs i x lt is =
     one None h = rw h refl
     one (Some y) h = rw h refl
 
-second_none : {E : Type 0} (a b : Option E) → option_or a b ≡ None → (a ≡ None) × (b ≡ None)
-second_none None b h = (refl, h)
-second_none (Some e) b h = absurd (cc)
+-- of two steps that refuse nothing, neither does
+pub option_or-none : {E : Type 0} (a b : Option E) → option_or a b ≡ None → (a ≡ None) × (b ≡ None)
+option_or-none None b h = (refl, h)
+option_or-none (Some e) b h = absurd (cc)
 
 -- where nothing is refused, each thing passes behind those before it
 pub over-each : {A E : Type 0} (test : List A → A → Option E) (before xs : List A) → first_over test before xs ≡ None
     → (i : ℕ) (d : A) → i < length xs → test (before ++ take i xs) (get_or xs i d) ≡ None
 over-each test before [] h i d lt = absurd (omega arith)
 over-each test before (x ∷ xs) h zero d lt =
-    let first = second_none (test before x) (first_over test (before ++ x ∷ []) xs) h in
+    let first = option_or-none (test before x) (first_over test (before ++ x ∷ []) xs) h in
     rw (append-nil before) first.0
 over-each test before (x ∷ xs) h (suc i) d lt =
-    let first = second_none (test before x) (first_over test (before ++ x ∷ []) xs) h in
+    let first = option_or-none (test before x) (first_over test (before ++ x ∷ []) xs) h in
     let rest = over-each test (before ++ x ∷ []) xs first.1 i d (omega arith) in
     rw append_assoc at rest
+
+-- where nothing is refused, what each thing that passes keeps holds of all together
+pub over-kept : {A E : Type 0} (test : List A → A → Option E) (P : List A → Type 0)
+    → ((before : List A) (x : A) → test before x ≡ None → P before → P (before ++ x ∷ []))
+    → (before xs : List A) → first_over test before xs ≡ None → P before → P (before ++ xs)
+over-kept test P keeps before [] h so = rw (append-nil before) so
+over-kept test P keeps before (x ∷ xs) h so =
+    let first = option_or-none (test before x) (first_over test (before ++ x ∷ []) xs) h in
+    let rest = over-kept test P keeps (before ++ x ∷ []) xs first.1 (keeps before x first.0 so) in
+    rw append_assoc at rest
+
+-- what holds of each thing that may be kept holds of all that are kept
+pub kept-all : {A B : Type 0} (f : A → Option B) (P : B → Type 0) (xs : List A)
+    → All (λ x. (y : B) → f x ≡ Some y → P y) xs → All P (filter_map f xs)
+kept-all f P [] h = All-nil P
+kept-all {A} {B} f P (x ∷ xs) h =
+    by (f x) refl (kept-all f P xs (All-tail (λ (a : A). (y : B) → f a ≡ Some y → P y) x xs h))
+  where
+    by : (o : Option B) → f x ≡ o → All P (filter_map f xs) → All P (filter_map f (x ∷ xs))
+    by None e rest = rw e rest
+    by (Some y) e rest =
+        rw e (All-cons P y (filter_map f xs) (All-head (λ (a : A). (y : B) → f a ≡ Some y → P y) x xs h y e) rest)
