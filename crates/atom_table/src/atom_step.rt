@@ -43,7 +43,8 @@ fn take_atom(
         x,
         y,
         unit,
-    } = item else {
+    } = item
+    else {
         return Ok(())
     };
     if atoms.contains(name) {

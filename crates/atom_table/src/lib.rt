@@ -10,6 +10,8 @@ mod refusal;
 mod sharing;
 mod sum_step;
 mod table;
+#[cfg(test)]
+mod tests;
 mod unit_step;
 
 pub use refusal::AtomRefusal;

@@ -1,4 +1,4 @@
-ghost use Rattle.std.specs.Prelude.{◌≡◌, ◌<◌, [], ◌∷◌, ◌++◌, false, length, IfOk, IfSome, OnErr, OnOk};
+ghost use Rattle.std.specs.Prelude.{◌≡◌, ◌<◌, [], ◌∷◌, ◌++◌, false, length, is_some, IfOk, IfSome, OnErr, OnOk};
 ghost use Rattle.atom_table.specs.Names.{is_among, place_of};
 
 use hyper_model::Name;
@@ -50,6 +50,7 @@ impl NameIndex {
     /// The place of the name, counted from 0.
     pub(crate) fn place_of(&self, name: &Name) -> Option<usize>
         ensures place { result ≡ place_of self.now name.now }
+        ensures known { is_some result ≡ is_among self.now name.now }
         ensures within { IfSome result (λ place. place < length self.now) }
     {
         self.names.get_index_of(name)

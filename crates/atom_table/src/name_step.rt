@@ -38,11 +38,19 @@ fn check_record(units: &NameIndex, atoms: &NameIndex, item: &Record) -> Result<(
             check_name(units, *at, 2, unit)?;
             check_name(atoms, *at, 3, atom)
         }
-        Record::Prefer { at, atom, units: list } => {
+        Record::Prefer {
+            at,
+            atom,
+            units: list,
+        } => {
             check_name(atoms, *at, 2, atom)?;
             check_list(units, *at, list)
         }
-        Record::Group { at, atom, units: list } => {
+        Record::Group {
+            at,
+            atom,
+            units: list,
+        } => {
             check_name(atoms, *at, 2, atom)?;
             check_list(units, *at, list)
         }

@@ -1,4 +1,4 @@
-ghost use Rattle.std.specs.Prelude.{◌≡◌, ◌<◌, [], ◌∷◌, ◌++◌, false, length, IfOk, IfSome, OnErr, OnOk};
+ghost use Rattle.std.specs.Prelude.{◌≡◌, ◌<◌, [], ◌∷◌, ◌++◌, false, length, is_some, IfOk, IfSome, OnErr, OnOk};
 ghost use Rattle.atom_table.specs.Names.{is_among, place_of};
 ghost use Rattle.atom_table.specs.Entries.{unit_names};
 
@@ -60,6 +60,7 @@ impl NamedUnits {
     /// The place of the unit with this name, counted from 0.
     pub(crate) fn place_of(&self, name: &Name) -> Option<u8>
         ensures place { result ≡ place_of (unit_names self.now) name.now }
+        ensures known { is_some result ≡ is_among (unit_names self.now) name.now }
         ensures within { IfSome result (λ place. place < length self.now) }
     {
         match self.names.place_of(name) {

@@ -1,8 +1,8 @@
-ghost use Rattle.std.specs.Prelude.{◌≡◌, ◌<◌, All, IfSome, length};
+ghost use Rattle.std.specs.Prelude.{◌≡◌, ◌<◌, All, IfSome, is_some, length};
 ghost use Rattle.hyper_model.specs.Plans.{IsBetween};
 ghost use Rattle.hyper_model.specs.declared.parts.Atom.{Atom};
 ghost use Rattle.plan_text.specs.Steps.{Gives};
-ghost use Rattle.atom_table.specs.Names.{place_of, place_or_zero};
+ghost use Rattle.atom_table.specs.Names.{is_among, place_of, place_or_zero};
 ghost use Rattle.atom_table.specs.Entries.{atom_names, unit_names};
 ghost use Rattle.atom_table.specs.Refusals.{entries_of};
 
@@ -58,6 +58,7 @@ impl AtomTable {
     /// The place of the unit with this name, counted from 0: none exactly where no unit has it.
     pub fn unit_of(&self, name: &Name) -> Option<u8>
         ensures place { result ≡ place_of (unit_names self.now.units) name.now }
+        ensures known { is_some result ≡ is_among (unit_names self.now.units) name.now }
         ensures within { IfSome result (λ place. place < length self.now.units) }
     {
         self.units.place_of(name)
@@ -66,6 +67,7 @@ impl AtomTable {
     /// The place of the atom with this name, counted from 0: none exactly where no atom has it.
     pub fn atom_of(&self, name: &Name) -> Option<u16>
         ensures place { result ≡ place_of (atom_names self.now.atoms) name.now }
+        ensures known { is_some result ≡ is_among (atom_names self.now.atoms) name.now }
         ensures within { IfSome result (λ place. place < length self.now.atoms) }
     {
         self.atoms.place_of(name)

@@ -39,15 +39,18 @@ pub over-all : {A E : Type 0} (test : List A → A → Option E) (xs : List A) (
     → length xs ≤ i → first_over test (take i xs) (drop i xs) ≡ total → total ≡ None
 over-all test xs i total ge so = sym so ∙ rw (drop_all i xs ge) refl
 
--- what is kept of things, with one thing more
-pub kept-more : {A B : Type 0} (f : A → Option B) (xs : List A) (i : ℕ) (x : A) → i < length xs → get_or xs i x ≡ x
-    → filter_map f (take (i + 1) xs) ≡ filter_map f (take i xs) ++ option_to_list (f x)
-kept-more {A} {B} f xs i x lt is =
-    rw (taken_at xs i x lt is) (filter_map-append f (take i xs) (x ∷ []) ∙ rw (one (f x) refl) refl)
+-- what is kept of things, and of one thing more
+pub filter_map-push : {A B : Type 0} (f : A → Option B) (xs : List A) (x : A)
+    → filter_map f (xs ++ x ∷ []) ≡ filter_map f xs ++ option_to_list (f x)
+filter_map-push {A} {B} f xs x = filter_map-append f xs (x ∷ []) ∙ rw (one (f x) refl) refl
   where
     one : (o : Option B) → f x ≡ o → filter_map f (x ∷ []) ≡ option_to_list (f x)
     one None h = rw h refl
     one (Some y) h = rw h refl
+
+pub kept-more : {A B : Type 0} (f : A → Option B) (xs : List A) (i : ℕ) (x : A) → i < length xs → get_or xs i x ≡ x
+    → filter_map f (take (i + 1) xs) ≡ filter_map f (take i xs) ++ option_to_list (f x)
+kept-more f xs i x lt is = rw (taken_at xs i x lt is) (filter_map-push f (take i xs) x)
 
 -- of two steps that refuse nothing, neither does
 pub option_or-none : {E : Type 0} (a b : Option E) → option_or a b ≡ None → (a ≡ None) × (b ≡ None)

@@ -11,5 +11,6 @@ inserted old new name fresh is = rw fresh at is
 
 pub returns-clause-ok : goal.returns-clause-ok
 returns-clause-ok c =
-    inserted c.args.self.now c.insert.new.self.keys c.args.name c.requires
-    (first_of (rw c.self.view_is c.in_ok-insert.ensures.keys, rw (← c.self.view_is) c.in_ok-insert.ensures.keys, c.in_ok-insert.ensures.keys))
+    let fresh : is_among c.self.inside.names.keys c.args.name ≡ false = cc c.requires in
+    let last = inserted c.self.inside.names.keys c.insert.new.self.keys c.args.name fresh c.in_ok-insert.ensures.keys in
+    cc last
