@@ -1,13 +1,16 @@
-// A library with one function.
+//! Where the units of a plan's records are, and how long they travel from there.
 #![tactic(auto)]
 
-ghost use Rattle.std.specs.Prelude.{◌≡◌};
-ghost use Rattle.unit_location.specs.Echo.{echo_of};
+mod locations;
+mod mean_time;
+mod refusal;
+mod sharing;
+mod share_sums;
+mod shares;
+#[cfg(test)]
+mod tests;
 
-// The `ensures` clause is the contract: what `echo` returns is `echo_of` of its argument, a definition
-// in `specs/Echo.antt`, which a caller's clause can cite too.
-pub fn echo(x: usize) -> usize
-    ensures { result ≡ echo_of x }
-{
-    x
-}
+pub use locations::Locations;
+pub use mean_time::mean_thousandths;
+pub use refusal::LocationRefusal;
+pub use sharing::shows_shared;
