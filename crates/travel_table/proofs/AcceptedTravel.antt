@@ -1,5 +1,5 @@
 -- The travel times that records in form give are those of a plan.
-use Rattle.std.proofs.Common.{◌≡◌, ℕ, ◌<◌, ◌≤◌, List, length, get_or, refl, sym, arith}
+use Rattle.std.proofs.Common.{◌≡◌, ◌≤◌, List, length, get_or, refl, sym, arith}
 use Rattle.std.specs.Prelude.{Some, Ok, All}
 use Rattle.hyper_model.specs.Grid.{Grid}
 use Rattle.hyper_model.specs.Plans.{HasTravel}
@@ -12,7 +12,6 @@ use Rattle.atom_table.specs.Entries.{Entries}
 use Rattle.atom_table.specs.Pairs.{Given, table_of}
 use Rattle.atom_table.proofs.GivenValues.{table_of-all}
 use Rattle.travel_table.specs.Travel.{travel_of, trip_in, trips_in}
-use Rattle.travel_table.specs.declared.refusal.TravelRefusal.{TravelRefusal}
 use Rattle.travel_table.proofs.TravelSteps.{travel_of-ok}
 
 -- the travel time of a record in form
@@ -28,7 +27,7 @@ has_travel records entries table p values given atoms travel =
     let is = travel_of-ok entries records table given in
     let same : p.travel ≡ table_of (length entries.atoms) (length entries.atoms) (trips_in entries records) = rw is at travel in
     let trips = kept-all (trip_in entries) (λ (trip : Given). trip.value ≤ 100000) records
-        (λ k d lt. trip_within entries (get_or records k d) (values k d lt)) in
+    (λ k d lt. trip_within entries (get_or records k d) (values k d lt)) in
     rw (same, atoms) (record {
       rows = refl;
       cols = refl;

@@ -1,21 +1,19 @@
 -- Travel times that are read one by one, and the refusal of all.
-use Rattle.std.proofs.Common.{◌≡◌, ◌∙◌, ℕ, ◌+◌, ◌*◌, ◌<◌, List, length, refl, sym, ap, arith}
+use Rattle.std.proofs.Common.{◌≡◌, ◌∙◌, ◌<◌, List, length, refl, sym, ap}
 use Rattle.std.specs.Prelude.{Option, Some, None, Result, Ok, Err, find, not}
 use Rattle.std.specs.List.{range_with_len}
-use Rattle.std.specs.Option.{option_and_then, option_or}
+use Rattle.std.specs.Option.{option_or}
 use Rattle.hyper_model.specs.Grid.{Grid}
 use Rattle.hyper_model.proofs.Grids.{place_within}
 use Rattle.plan_text.specs.Steps.{◌>>=◌, unless_refused}
 use Rattle.plan_text.specs.declared.record.Record.{Record}
 use Rattle.plan_text.specs.declared.record.Record.TheVariants as rec
-use Rattle.plan_text.proofs.Over.{option_or-none}
 use Rattle.atom_table.specs.Entries.{Entries}
-use Rattle.atom_table.specs.Pairs.{Given, PairTable, is_known, pair_of, pair_table_of, table_of, twice}
+use Rattle.atom_table.specs.Pairs.{PairTable, is_known, pair_of, pair_table_of, table_of}
 use Rattle.atom_table.proofs.GivenValues.{IsInside, first_gap-of}
 use Rattle.atom_table.proofs.OwnNames.{atom_place-within}
 use Rattle.travel_table.specs.Travel.{atom_place, first_missing, gap_refusal, travel_of, trip_in, trips_in, trips_refusal}
 use Rattle.travel_table.specs.declared.refusal.TravelRefusal.{TravelRefusal}
-use Rattle.travel_table.specs.declared.refusal.TravelRefusal.TheVariants.{DuplicateTravel}
 
 -- a pair of atoms lies within the table
 pub trip_in-inside : (entries : Entries) (r : Record) → 0 < length entries.atoms

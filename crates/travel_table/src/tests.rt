@@ -47,6 +47,9 @@ fn refusals_name_their_record(rt: HostRuntime) -> Result<(), Fail> {
 #[test]
 fn refusals_are_told(rt: HostRuntime) -> Result<(), Fail> {
     let told = format!(in rt.alloc(); "{}", TravelRefusal::MissingTravel(2, 1))?;
-    assert_eq!(rt; told.as_str(), "there is no travel time from atom 2 to atom 1");
+    assert_eq!(rt;
+        told.as_str(),
+        "there is no travel time from atom 2 to atom 1"
+    );
     Ok(())
 }

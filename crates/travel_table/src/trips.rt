@@ -27,11 +27,7 @@ pub(crate) fn read_trips(
     Ok(trips)
 }
 
-fn take_trip(
-    names: &AtomTable,
-    item: &Record,
-    trips: &mut PairValues,
-) -> Result<(), TravelRefusal>
+fn take_trip(names: &AtomTable, item: &Record, trips: &mut PairValues) -> Result<(), TravelRefusal>
     requires rows { trips.old.table.rows ≡ length names.now.atoms }
     requires cols { trips.old.table.cols ≡ length names.now.atoms }
     ensures refusal { Refuses result (option_and_then (twice TravelRefusal.DuplicateTravel (is_known trips.old)) (trip_in names.now item.now)) }
@@ -42,7 +38,8 @@ fn take_trip(
         from,
         to,
         seconds,
-    } = item else {
+    } = item
+    else {
         return Ok(())
     };
     if trips.put(names.atom_place(from), names.atom_place(to), *seconds) {

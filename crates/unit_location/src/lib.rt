@@ -4,9 +4,9 @@
 mod locations;
 mod mean_time;
 mod refusal;
-mod sharing;
 mod share_sums;
 mod shares;
+mod sharing;
 #[cfg(test)]
 mod tests;
 

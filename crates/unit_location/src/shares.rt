@@ -40,7 +40,8 @@ fn take_share(
         unit,
         atom,
         thousandths,
-    } = item else {
+    } = item
+    else {
         return Ok(())
     };
     if shares.put(names.unit_place(unit), names.atom_place(atom), *thousandths) {

@@ -50,6 +50,9 @@ fn refusals_name_their_record(rt: HostRuntime) -> Result<(), Fail> {
 #[test]
 fn refusals_are_told(rt: HostRuntime) -> Result<(), Fail> {
     let told = format!(in rt.alloc(); "{}", LocationRefusal::LocationSum(2, 999))?;
-    assert_eq!(rt; told.as_str(), "the thousandths of unit 2 sum to 999, not 1000");
+    assert_eq!(rt;
+        told.as_str(),
+        "the thousandths of unit 2 sum to 999, not 1000"
+    );
     Ok(())
 }

@@ -13,8 +13,8 @@ returns-in_err-take_trip-clause-refusal c =
     let lt : c.loop-item.item-index < length c.args.records.now = omega arith in
     let n = length c.args.names.now.atoms in
     let same = twice-known DuplicateTravel n n (trips_in c.args.names.now (take c.loop-item.item-index c.args.records.now))
-        c.loop-item.trips (trip_in c.args.names.now c.item-item.result) inv.trips
-        (trip_in-inside c.args.names.now c.item-item.result inv.some) in
+    c.loop-item.trips (trip_in c.args.names.now c.item-item.result) inv.trips
+    (trip_in-inside c.args.names.now c.item-item.result inv.some) in
     let p = err_from_is_err_and c.from_residual-in_err-take_trip.result c.from_residual-in_err-take_trip.ensures.1 in
     rw (p.1, p.2) (inr (over-refused (trip_refusal c.args.names.now) c.args.records.now c.loop-item.item-index c.item-item.result
     (trips_refusal c.args.names.now c.args.records.now) c.in_err-take_trip.field-0.0 lt (sym c.item-item.is)
@@ -27,12 +27,14 @@ loop-item-preserved c =
     let n = length c.args.names.now.atoms in
     let inside = trip_in-inside c.args.names.now c.item-item.result inv.some in
     let same = twice-known DuplicateTravel n n (trips_in c.args.names.now (take c.loop-item.item-index c.args.records.now))
-        c.loop-item.trips (trip_in c.args.names.now c.item-item.result) inv.trips inside in
+    c.loop-item.trips (trip_in c.args.names.now c.item-item.result) inv.trips inside in
     let none = sym same ∙ c.in_ok-take_trip.ensures.refusal in
     record {
       some = inv.some;
-      trips = rw (c.in_ok-take_trip.ensures.taken,
-          kept-more (trip_in c.args.names.now) c.args.records.now c.loop-item.item-index c.item-item.result lt (sym c.item-item.is))
+      trips = rw (
+        c.in_ok-take_trip.ensures.taken,
+        kept-more (trip_in c.args.names.now) c.args.records.now c.loop-item.item-index c.item-item.result lt (sym c.item-item.is),
+      )
           (with_given-new DuplicateTravel n n (trips_in c.args.names.now (take c.loop-item.item-index c.args.records.now))
           c.loop-item.trips (trip_in c.args.names.now c.item-item.result) inv.trips inside none);
       so_far = over-more (trip_refusal c.args.names.now) c.args.records.now c.loop-item.item-index c.item-item.result
