@@ -1,11 +1,11 @@
 -- What holds of units and atoms that are not refused: they are those of a plan that can be accepted.
 use Rattle.std.proofs.Common.{◌≡◌, ◌∙◌, ℕ, ◌+◌, ◌<◌, ◌≤◌, List, [], ◌∷◌, ◌++◌, length, get_or, true, false, refl, sym, arith}
-use Rattle.std.specs.Prelude.{Bool, if◌then◌else◌, ◌==◌, nat_le, nat_lt, Option, Some, None, Ok, All, map}
+use Rattle.std.specs.Prelude.{Bool, if◌then◌else◌, ◌==◌, nat_le, nat_lt, Option, Some, None, Ok, All}
 use Rattle.std.specs.Option.{option_to_list}
 use Rattle.std.proofs.lemmas.Bool.Decides.{nat_tests}
 use Rattle.std.proofs.lemmas.List.{append-nil, get_or-map, length-append, length-map, map-append}
 use Rattle.std.proofs.lemmas.List.Elements.{All-get_or}
-use Rattle.hyper_model.specs.Plans.{HasAtoms, HasUnits, IsBetween, IsPlaced, no_atom, no_unit}
+use Rattle.hyper_model.specs.Plans.{HasAtoms, HasUnits, IsBetween, no_atom, no_unit}
 use Rattle.hyper_model.specs.declared.parts.Atom.{Atom}
 use Rattle.hyper_model.specs.declared.parts.PlanParts.{PlanParts}
 use Rattle.hyper_model.specs.declared.parts.Unit as declared_unit

@@ -1,7 +1,6 @@
 -- The refusal of records is that of the first step that refuses.
 use Rattle.std.proofs.Common.{◌≡◌, ◌∙◌, ◌⊎◌, List, inl, inr, refl, sym, ap, subst}
 use Rattle.std.specs.Prelude.{Option, Some, None, Result, Ok, Err}
-use Rattle.std.specs.Option.{option_or}
 use Rattle.hyper_model.specs.declared.parts.Atom.{Atom}
 use Rattle.hyper_model.specs.declared.parts.Unit as declared_unit
 use Rattle.plan_text.specs.Steps.{◌>>=◌, unless_refused}

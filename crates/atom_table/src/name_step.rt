@@ -1,6 +1,4 @@
-ghost use Rattle.std.specs.Prelude.{◌≡◌};
 ghost use Rattle.plan_text.specs.Steps.{Refuses};
-ghost use Rattle.atom_table.specs.Entries.{atom_names, unit_names};
 ghost use Rattle.atom_table.specs.Refusals.{name_refusal, names_refusal, unknown, unknown_from};
 
 use crate::AtomRefusal;

@@ -1,5 +1,5 @@
 -- The locations that records give are those of a plan.
-use Rattle.std.proofs.Common.{◌≡◌, ◌<◌, List, length, refl}
+use Rattle.std.proofs.Common.{◌≡◌, List, refl}
 use Rattle.std.specs.Prelude.{Ok}
 use Rattle.hyper_model.specs.Grid.{Grid}
 use Rattle.hyper_model.specs.Plans.{HasLocations}

@@ -1,5 +1,5 @@
 -- Thousandths that are read one by one, and the refusal of all.
-use Rattle.std.proofs.Common.{◌≡◌, ◌≢◌, ◌∙◌, ℕ, ◌+◌, ◌*◌, ◌<◌, ◌≤◌, List, length, true, false, refl, sym, ap, subst, arith}
+use Rattle.std.proofs.Common.{◌≡◌, ◌≢◌, ◌∙◌, ℕ, ◌+◌, ◌<◌, List, length, true, false, refl, sym, ap, arith}
 use Rattle.std.specs.Prelude.{Bool, ◌==◌, Option, Some, None, Result, Ok, Err, find, not}
 use Rattle.std.specs.List.{range_with_len}
 use Rattle.std.specs.Option.{option_map, option_or}
@@ -13,7 +13,7 @@ use Rattle.plan_text.specs.declared.record.Record.TheVariants as rec
 use Rattle.plan_text.proofs.Over.{option_or-none}
 use Rattle.atom_table.specs.Names.{place_or_zero}
 use Rattle.atom_table.specs.Entries.{Entries, atom_names, unit_names}
-use Rattle.atom_table.specs.Pairs.{Given, pair_of}
+use Rattle.atom_table.specs.Pairs.{pair_of}
 use Rattle.atom_table.proofs.FirstBelow.{find-here, find-more, find-none, numbers_from}
 use Rattle.atom_table.proofs.GivenValues.{IsInside}
 use Rattle.atom_table.proofs.OwnNames.{atom_place-within, unit_place-within}
