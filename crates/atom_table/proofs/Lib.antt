@@ -1,0 +1,8 @@
+-- lemmas, each file on one subject
+pub mod AcceptedEntries
+pub mod FirstBelow
+pub mod GivenValues
+pub mod NameLists
+pub mod OwnNames
+pub mod RateSums
+pub mod StepByStep
