@@ -1,0 +1,5 @@
+-- lemmas, each file on one subject
+pub mod CentreLists
+pub mod MeanPlaces
+pub mod ListRows
+pub mod CentredRows
