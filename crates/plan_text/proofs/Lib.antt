@@ -3,5 +3,6 @@ pub mod LastDropped
 pub mod CleanedFields
 pub mod WholeReading
 pub mod Front
+pub mod Over
 pub mod RowByRow
 pub mod InForm

@@ -1,0 +1,6 @@
+-- lemmas, each file on one subject
+pub mod AcceptedEntries
+pub mod NameLists
+pub mod OwnNames
+pub mod RateSums
+pub mod StepByStep
