@@ -3,7 +3,7 @@ use Rattle.std.proofs.Common.{◌≡◌, ◌∙◌, ℕ, zero, suc, ◌+◌, ◌
 use Rattle.std.proofs.lemmas.List.{get_or-append_right, get_or_at, length-map, length-take-le, set_at, take_more}
 use Rattle.std.proofs.lemmas.List as lists
 use Rattle.hyper_model.specs.Groups.{AtomList, GroupLists, list_of, no_row, row_of, with_member}
-use Rattle.preference_rules.specs.Centred.{with_members}
+use Rattle.preference_rules.specs.Rows.{with_members}
 
 -- the first j things made into rows, and blank rows behind them
 abbrev pub made_rows : {A B : Type 0} → (A → B) → B → List A → ℕ → List B

@@ -1,7 +1,7 @@
 -- The preference lists that follow from where units and calls are.
-use Rattle.std.specs.Prelude.{ℕ, true, List, length, map, replicate, slice_set}
+use Rattle.std.specs.Prelude.{ℕ, true, List, length, map, replicate}
 use Rattle.hyper_model.specs.Grid.{Grid}
-use Rattle.hyper_model.specs.Groups.{AtomList, GroupLists, row_of}
+use Rattle.hyper_model.specs.Groups.{AtomList, GroupLists}
 use Rattle.hyper_model.specs.declared.kinds.Rule.{Rule}
 use Rattle.hyper_model.specs.declared.parts.Atom.{Atom}
 use Rattle.preference_rules.specs.CentreOrder.{centre_list}
@@ -18,9 +18,3 @@ centred_row rule units atoms located atom =
 
 abbrev pub centred_lists : Rule → ℕ → List Atom → Grid → GroupLists
 centred_lists rule units atoms located = record { units = units; rows = map (centred_row rule units atoms located) atoms }
-
--- the lists with these units at the places of an atom's list
-abbrev pub with_members : GroupLists → ℕ → List ℕ → GroupLists
-with_members lists atom members = record lists {
-  rows = slice_set lists.rows atom (record (row_of lists atom) { members = members });
-}

@@ -2,9 +2,14 @@
 #![tactic(auto)]
 
 mod centre;
+mod draft;
+mod given;
 mod order;
 mod points;
+mod refusal;
 mod rows;
 
 pub use centre::centred;
+pub use given::law_given_groups;
 pub use order::law_centre_list;
+pub use refusal::ListRefusal;

@@ -1,6 +1,6 @@
 use Rattle.std.proofs.Common.{◌≡◌, ◌++◌, take, drop}
 use Rattle.hyper_model.specs.Groups.{list_of}
-use Rattle.preference_rules.specs.Centred.{with_members}
+use Rattle.preference_rules.specs.Rows.{with_members}
 use Rattle.preference_rules.proofs.rows.put_members.Given as goal
 
 abbrev pub invariant-loop-place : goal.invariant-loop-place
