@@ -18,7 +18,7 @@ use Rattle.atom_table.specs.Entries.{Entries, HasEntries, atom_in, atom_names, a
 use Rattle.atom_table.specs.Refusals.{atom_refusal, entries_of, none_refusal, sum_refusal, unit_refusal}
 use Rattle.atom_table.specs.declared.refusal.AtomRefusal.{AtomRefusal}
 use Rattle.atom_table.specs.declared.refusal.AtomRefusal.TheVariants.{NoCalls, RateSum, ServiceSum}
-use Rattle.atom_table.proofs.OwnNames.{AreOwn, own_none, own_push, place_or_zero-within}
+use Rattle.atom_table.proofs.OwnNames.{AreOwn, own_none, own_push, unit_place-within}
 use Rattle.atom_table.proofs.RateSums.{sum_by-below}
 use Rattle.atom_table.proofs.StepByStep.{Passes, entries_of-ok}
 
@@ -95,10 +95,8 @@ some_each (unit ∷ units) (atom ∷ atoms) h = (omega arith, omega arith)
 district_within : (units : List declared_unit.Unit) → 0 < length units → (r : Record) (atom : Atom) → atom_in units r ≡ Some atom
     → atom.district < length units
 district_within units some (rec.AtomIs at name rate x y unit) atom is =
-    let size : length (unit_names units) ≡ length units = length-map units (λ (u : declared_unit.Unit). u.name) in
-    let inside = place_or_zero-within (unit_names units) unit (omega (arith, size)) in
     let e : place_or_zero (unit_names units) unit ≡ atom.district = cc in
-    rw (sym e) (omega (arith, size, inside))
+    rw (sym e) (unit_place-within units unit some)
 district_within units some _ atom is = absurd (cc)
 
 -- all that the steps show of units and atoms

@@ -1,5 +1,7 @@
 -- lemmas, each file on one subject
 pub mod AcceptedEntries
+pub mod FirstBelow
+pub mod GivenValues
 pub mod NameLists
 pub mod OwnNames
 pub mod RateSums

@@ -4,10 +4,13 @@ use Rattle.std.specs.Prelude.{Bool, Option, Some, None, position}
 use Rattle.std.specs.List.{list_any}
 use Rattle.std.specs.Str.{bytes_eq}
 use Rattle.std.proofs.lemmas.Bool.{cases_lt}
-use Rattle.std.proofs.lemmas.List.{get_or_append_left, get_or_at, length-append}
+use Rattle.std.proofs.lemmas.List.{get_or_append_left, get_or_at, length-append, length-map}
 use Rattle.std.proofs.lemmas.List.Folds.{list_any_at}
 use Rattle.std.proofs.lemmas.List.Quantifiers.{position-Some}
 use Rattle.std.proofs.lemmas.Slice.Eq.{bytes_eq-Decides}
+use Rattle.hyper_model.specs.declared.parts.Atom.{Atom}
+use Rattle.hyper_model.specs.declared.parts.Unit as declared_unit
+use Rattle.atom_table.specs.Entries.{atom_names, unit_names}
 use Rattle.atom_table.specs.Names.{is_among, place_of, place_or_zero}
 
 abbrev pub AreOwn : List (List ℕ) → Type 0
@@ -48,3 +51,16 @@ place_or_zero-within names name some = by (place_of names name) refl
     by : (found : Option ℕ) → place_of names name ≡ found → place_or_zero names name < length names
     by None e = rw e some
     by (Some place) e = rw e ((position-Some (bytes_eq name) names place [] e).0)
+
+-- the places of units and atoms
+pub unit_place-within : (units : List declared_unit.Unit) (name : List ℕ) → 0 < length units
+    → place_or_zero (unit_names units) name < length units
+unit_place-within units name some =
+    let size : length (unit_names units) ≡ length units = length-map units (λ (unit : declared_unit.Unit). unit.name) in
+    omega (arith, size, place_or_zero-within (unit_names units) name (omega (arith, size)))
+
+pub atom_place-within : (atoms : List Atom) (name : List ℕ) → 0 < length atoms
+    → place_or_zero (atom_names atoms) name < length atoms
+atom_place-within atoms name some =
+    let size : length (atom_names atoms) ≡ length atoms = length-map atoms (λ (atom : Atom). atom.name) in
+    omega (arith, size, place_or_zero-within (atom_names atoms) name (omega (arith, size)))

@@ -6,6 +6,7 @@ mod name_index;
 mod name_step;
 mod named_atoms;
 mod named_units;
+mod pair_values;
 mod refusal;
 mod sharing;
 mod sum_step;
@@ -14,6 +15,7 @@ mod table;
 mod tests;
 mod unit_step;
 
+pub use pair_values::PairValues;
 pub use refusal::AtomRefusal;
 pub use sharing::shows_shared;
 pub use table::AtomTable;
