@@ -3,3 +3,6 @@ pub mod CentreLists
 pub mod MeanPlaces
 pub mod ListRows
 pub mod CentredRows
+pub mod DraftSteps
+pub mod FullLists
+pub mod GivenRows

@@ -43,7 +43,7 @@ asked_refusal _ = None
 
 -- a record behind others, by the rule
 abbrev pub record_refusal : Rule → List (List ℕ) → List Record → Record → Option ListRefusal
-record_refusal rule.Given atoms = twice_refusal atoms
+record_refusal rule.Given atoms before = twice_refusal atoms before
 record_refusal rule.Strict atoms before = asked_refusal
 record_refusal rule.Modified atoms before = asked_refusal
 

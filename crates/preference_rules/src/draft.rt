@@ -1,4 +1,4 @@
-ghost use Rattle.std.specs.Prelude.{◌≡◌, if◌then◌else◌, Some, None, OnOk};
+ghost use Rattle.std.specs.Prelude.{◌≡◌, ◌<◌, if◌then◌else◌, Some, None, OnOk};
 ghost use Rattle.plan_text.specs.Steps.{Checks, Refuses};
 ghost use Rattle.atom_table.specs.Entries.{unit_names};
 ghost use Rattle.hyper_model.specs.Acceptance as acceptance;
@@ -97,9 +97,10 @@ impl Draft {
         Ok(())
     }
 
-    /// Refuses the list of this atom, counted from 1, where no record is for it or where it does not hold each unit
+    /// Refuses the list of this atom, counted from 0, where no record is for it or where it does not hold each unit
     /// once.
     pub(crate) fn check(&self, atom: usize, units: usize) -> Result<(), ListRefusal>
+        requires { atom < 200 }
         ensures { Refuses result (given.draft_refusal units atom self.now) }
     {
         if !self.is_listed {

@@ -26,7 +26,8 @@ pub(crate) fn given_lists(
     let drafts = read_drafts(alloc, names, records)?;
     let units = names.units().len();
     check_drafts(&drafts, units)?;
-    Ok(draft_lists(alloc, &drafts, units)?)
+    let lists = draft_lists(alloc, &drafts, units)?;
+    Ok(lists)
 }
 
 /// What the records give for each atom.
@@ -38,6 +39,7 @@ fn read_drafts(
     ensures refusal { Checks ListRefusal.NoMemory result (records_refusal rule.Given (atom_names names.now.atoms) records.now) }
     ensures drafts { IfOk result (λ drafts.
         drafts.items ≡ drafts_of (unit_names names.now.units) (atom_names names.now.atoms) records.now) }
+    ensures most { IfOk result (λ drafts. length drafts.items ≤ 200) }
 {
     let mut drafts = no_drafts(alloc, names.atoms().len())?;
     for item in records {
@@ -50,7 +52,7 @@ fn no_drafts(alloc: Global, atoms: usize) -> Result<Vec<Draft>, AllocError>
     ensures { IfOk result (λ drafts. drafts.items ≡ replicate atoms no_draft) }
 {
     let mut drafts = Vec::new(alloc);
-    for _ in 0..atoms {
+    for _j in 0..atoms {
         drafts.push(Draft::new(alloc))?;
     }
     Ok(drafts)
@@ -88,6 +90,7 @@ fn take_record(
 
 /// Refuses the first list that no record is for, or that does not hold each unit once.
 fn check_drafts(drafts: &Vec<Draft>, units: usize) -> Result<(), ListRefusal>
+    requires { length drafts.now.items ≤ 200 }
     ensures { Refuses result (drafts_refusal units drafts.now.items) }
 {
     for j in 0..drafts.len() {

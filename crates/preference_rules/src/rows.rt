@@ -1,5 +1,5 @@
-ghost use Rattle.std.specs.Prelude.{◌≡◌, ◌<◌, true, length, replicate, slice_index_or};
-ghost use Rattle.hyper_model.specs.Groups.{row_of};
+ghost use Rattle.std.specs.Prelude.{◌≡◌, ◌<◌, ◌≤◌, if◌then◌else◌, true, length, replicate, slice_index_or};
+ghost use Rattle.hyper_model.specs.Groups.{row_of, with_joined};
 ghost use Rattle.preference_rules.specs.Rows.{with_begins, with_members, with_row};
 
 use hyper_model::Lists;
@@ -37,8 +37,17 @@ fn put_begins(lists: &mut Lists, atom: usize, begins: &[bool])
     ensures { lists.new ≡ with_begins lists.old atom begins.now }
 {
     for place in 1..lists.units() {
-        if !begins[place] {
-            lists.join(atom, place);
-        }
+        join_unless(lists, atom, place, begins[place]);
+    }
+}
+
+fn join_unless(lists: &mut Lists, atom: usize, place: usize, begins: bool)
+    requires atom { atom < length lists.old.rows }
+    requires place { place < lists.old.units }
+    requires later { 1 ≤ place }
+    ensures { lists.new ≡ (if begins then lists.old else with_joined lists.old atom place) }
+{
+    if !begins {
+        lists.join(atom, place);
     }
 }
