@@ -1,0 +1,13 @@
+//! The seconds of travel between the atoms of a plan's records.
+#![tactic(auto)]
+
+mod refusal;
+mod sharing;
+mod table;
+#[cfg(test)]
+mod tests;
+mod trips;
+
+pub use refusal::TravelRefusal;
+pub use sharing::shows_shared;
+pub use table::TravelTable;
