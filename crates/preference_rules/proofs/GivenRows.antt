@@ -6,13 +6,12 @@ use Rattle.std.proofs.lemmas.List as lists
 use Rattle.std.proofs.lemmas.List.Elements.{All-from_get_or}
 use Rattle.std.proofs.lemmas.List.FromFn.{get_or-map-range_with_len}
 use Rattle.hyper_model.specs.Acceptance.{IsFullList}
-use Rattle.hyper_model.specs.declared.kinds.Rule.TheVariants.{Given}
 use Rattle.hyper_model.specs.Groups.{AtomList, GroupLists, no_row, row_of, with_joined}
 use Rattle.plan_text.specs.Steps.{first_over}
 use Rattle.plan_text.specs.declared.record.Record.{Record}
 use Rattle.plan_text.proofs.Over.{over-each}
 use Rattle.preference_rules.specs.Drafts.{Draft, draft_of, drafts_of, given_groups, no_draft, row_of_groups}
-use Rattle.preference_rules.specs.Given.{IsFilled, draft_refusal, draft_rows, drafts_refusal, given_lists, given_lists_of, holds_each, records_refusal}
+use Rattle.preference_rules.specs.Given.{IsFilled, draft_refusal, draft_rows, drafts_refusal, given_lists, given_lists_of, holds_each, twice_records_refusal}
 use Rattle.preference_rules.specs.Rows.{with_begins, with_members, with_row}
 use Rattle.preference_rules.specs.declared.refusal.ListRefusal.{ListRefusal}
 use Rattle.preference_rules.specs.declared.refusal.ListRefusal.TheVariants.{ListNotWhole, MissingList}
@@ -175,13 +174,13 @@ drafts_more units drafts j draft members begins lt read m b =
 
 -- the first refusal is that of a record, or else that of a list
 pub given-stop_record : (units atoms : List (List ℕ)) (records : List Record) (e wants : ListRefusal)
-    → (e ≡ wants) ⊎ (records_refusal Given atoms records ≡ Some e) → (e ≡ wants) ⊎ (given_lists_of units atoms records ≡ Err e)
+    → (e ≡ wants) ⊎ (twice_records_refusal atoms records ≡ Some e) → (e ≡ wants) ⊎ (given_lists_of units atoms records ≡ Err e)
 unfolding given_lists_of
 given-stop_record units atoms records e wants (inl h) = inl h
 given-stop_record units atoms records e wants (inr h) = inr (rw h refl)
 
 pub given-stop_list : (units atoms : List (List ℕ)) (records : List Record) (n : ℕ) (drafts : List Draft) (e : ListRefusal) → n ≡ length units
-    → drafts ≡ drafts_of units atoms records → records_refusal Given atoms records ≡ None → drafts_refusal n drafts ≡ Some e
+    → drafts ≡ drafts_of units atoms records → twice_records_refusal atoms records ≡ None → drafts_refusal n drafts ≡ Some e
     → given_lists_of units atoms records ≡ Err e
 unfolding given_lists_of
 given-stop_list units atoms records n drafts e many is none h =
@@ -190,7 +189,7 @@ given-stop_list units atoms records n drafts e many is none h =
     rw (none, refused) refl
 
 pub given-done : (units atoms : List (List ℕ)) (records : List Record) (n : ℕ) (drafts : List Draft) (made : GroupLists) → n ≡ length units
-    → drafts ≡ drafts_of units atoms records → records_refusal Given atoms records ≡ None → drafts_refusal n drafts ≡ None
+    → drafts ≡ drafts_of units atoms records → twice_records_refusal atoms records ≡ None → drafts_refusal n drafts ≡ None
     → made ≡ draft_rows n drafts → given_lists_of units atoms records ≡ Ok made
 unfolding given_lists_of
 given-done units atoms records n drafts made many is none h rows =

@@ -6,3 +6,4 @@ pub mod CentredRows
 pub mod DraftSteps
 pub mod FullLists
 pub mod GivenRows
+pub mod AcceptedLists

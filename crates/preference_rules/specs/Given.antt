@@ -41,18 +41,12 @@ asked_refusal (rec.Prefer at atom units) = Some (ListNotAsked at)
 asked_refusal (rec.Group at atom units) = Some (ListNotAsked at)
 asked_refusal _ = None
 
--- a record behind others, by the rule
-abbrev pub record_refusal : Rule → List (List ℕ) → List Record → Record → Option ListRefusal
-record_refusal rule.Given atoms before = twice_refusal atoms before
-record_refusal rule.Strict atoms before = asked_refusal
-record_refusal rule.Modified atoms before = asked_refusal
+-- the first record that is refused, where lists are given and where they are not
+abbrev pub twice_records_refusal : List (List ℕ) → List Record → Option ListRefusal
+twice_records_refusal atoms records = first_over (twice_refusal atoms) [] records
 
 abbrev pub asked_records_refusal : List Record → Option ListRefusal
 asked_records_refusal records = first_over (λ before. asked_refusal) [] records
-
--- the first such record
-abbrev pub records_refusal : Rule → List (List ℕ) → List Record → Option ListRefusal
-records_refusal rule atoms records = first_over (record_refusal rule atoms) [] records
 
 -- whether each of the first n units stands once in a list
 abbrev pub holds_each : ℕ → List ℕ → Bool
@@ -89,16 +83,18 @@ given_lists units atoms records = record {
 -- the same, where no record and no list is refused
 unfoldable pub given_lists_of : List (List ℕ) → List (List ℕ) → List Record → Result GroupLists ListRefusal
 given_lists_of units atoms records =
-    unless_refused (option_or (records_refusal rule.Given atoms records) (drafts_refusal (length units) (drafts_of units atoms records)))
+    unless_refused (option_or (twice_records_refusal atoms records) (drafts_refusal (length units) (drafts_of units atoms records)))
     >>= λ _. Ok (given_lists units atoms records)
 
--- the lists of the atoms by their rule
-unfoldable pub preferences_of : Rule → Entries → Grid → List Record → Result GroupLists ListRefusal
+-- the lists that follow from where units and calls are, where no record is refused
+unfoldable pub centred_lists_of : Rule → Entries → Grid → List Record → Result GroupLists ListRefusal
+centred_lists_of rule entries located records =
+    unless_refused (asked_records_refusal records)
+    >>= λ _. Ok (centred_lists rule (length entries.units) entries.atoms located)
+
+-- the lists of the atoms by the rule
+abbrev pub preferences_of : Rule → Entries → Grid → List Record → Result GroupLists ListRefusal
 preferences_of rule.Given entries located records =
     given_lists_of (unit_names entries.units) (atom_names entries.atoms) records
-preferences_of rule.Strict entries located records =
-    unless_refused (records_refusal rule.Strict (atom_names entries.atoms) records)
-    >>= λ _. Ok (centred_lists rule.Strict (length entries.units) entries.atoms located)
-preferences_of rule.Modified entries located records =
-    unless_refused (records_refusal rule.Modified (atom_names entries.atoms) records)
-    >>= λ _. Ok (centred_lists rule.Modified (length entries.units) entries.atoms located)
+preferences_of rule.Strict entries located records = centred_lists_of rule.Strict entries located records
+preferences_of rule.Modified entries located records = centred_lists_of rule.Modified entries located records

@@ -1,10 +1,9 @@
 ghost use Rattle.std.specs.Prelude.{◌≡◌, ◌<◌, ◌≤◌, ℕ, List, All, IfOk, OnOk, drop, length, replicate};
-ghost use Rattle.hyper_model.specs.declared.kinds.Rule.TheVariants as rule;
 ghost use Rattle.plan_text.specs.Steps.{Checks, Gives, Refuses};
 ghost use Rattle.atom_table.specs.Entries.{atom_names, unit_names};
 ghost use Rattle.hyper_model.specs.Groups.{groups_from};
 ghost use Rattle.preference_rules.specs.Drafts.{drafts_of, no_draft, row_of_groups, with_record};
-ghost use Rattle.preference_rules.specs.Given.{IsFilled, again_refusal, asked_records_refusal, draft_rows, drafts_refusal, given_lists_of, records_refusal};
+ghost use Rattle.preference_rules.specs.Given.{IsFilled, again_refusal, asked_records_refusal, draft_rows, drafts_refusal, given_lists_of, twice_records_refusal};
 
 use crate::ListRefusal;
 use crate::draft::Draft;
@@ -36,7 +35,7 @@ fn read_drafts(
     names: &AtomTable,
     records: &[Record],
 ) -> Result<Vec<Draft>, ListRefusal>
-    ensures refusal { Checks ListRefusal.NoMemory result (records_refusal rule.Given (atom_names names.now.atoms) records.now) }
+    ensures refusal { Checks ListRefusal.NoMemory result (twice_records_refusal (atom_names names.now.atoms) records.now) }
     ensures drafts { IfOk result (λ drafts.
         drafts.items ≡ drafts_of (unit_names names.now.units) (atom_names names.now.atoms) records.now) }
     ensures most { IfOk result (λ drafts. length drafts.items ≤ 200) }
