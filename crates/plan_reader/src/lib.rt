@@ -4,6 +4,8 @@
 mod plan;
 mod refusal;
 mod settings;
+#[cfg(test)]
+mod tests;
 
 pub use plan::read_plan;
 pub use refusal::PlanRefusal;
