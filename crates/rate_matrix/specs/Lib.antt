@@ -1,3 +1,6 @@
 pub mod Elimination
+pub mod Bands
+pub mod Rows
 pub mod Levels
 pub mod Weights
+pub mod WordChains

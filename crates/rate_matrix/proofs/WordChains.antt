@@ -1,0 +1,108 @@
+-- The words of a plan as the states of a chain: why it is one, and that its balance is the plan's.
+use Rattle.std.proofs.Common.{◌≡◌, ◌≢◌, ℕ, ◌+◌, ◌-◌, ◌*◌, ◌^◌, ◌<◌, ◌≤◌, ◌↔◌, Bool, true, false, cond, eqb, List, length, map, get_or, slice_index, refl, sym, ap, subst, ◌∙◌, inl, inr, arith}
+use Rattle.std.proofs.lemmas.Bool.{cases_lt, cases_eq}
+use Rattle.hyper_model.specs.declared.parts.PlanParts.{PlanParts}
+use Rattle.hyper_model.specs.Sums.{sum_below}
+use Rattle.hyper_model.specs.Plans.{units, all_calls, all_service, split, IsAccepted}
+use Rattle.hyper_model.specs.Words.{words, is_busy, turned}
+use Rattle.hyper_model.specs.Laws.{level}
+use Rattle.hyper_model.specs.Rates.{leaving}
+use Rattle.hyper_model.specs.Solutions.{mass_in, SolvesWords}
+use Rattle.hyper_model.specs.Tables.{RateTable, Descends, IsTableSolution, SolvesTable, between_states, turn_rate, word_table}
+use Rattle.hyper_model.proofs.Sums.{on_test, sum-le}
+use Rattle.hyper_model.proofs.Bits.{busy_exists, turned_lt}
+use Rattle.hyper_model.proofs.Levels.{level_down, level_up}
+use Rattle.hyper_model.proofs.Chains.{solves_alike}
+use Rattle.hyper_model.proofs.Relabel.{AreInverse, relabelled, renumbered, renumbered_back, sum_relabelled}
+use Rattle.hyper_model.proofs.WordTables.{service_positive}
+use Rattle.hyper_model.proofs.WordRates.{leaving_le, leaving_row, table_at_turned, table_elsewhere}
+use Rattle.hyper_model.proofs.PlanLaws.{solves_word_table}
+use Rattle.busy_words.specs.Order.{IsInOrder, WordOrder, rank_of, word_at}
+use Rattle.busy_words.proofs.Ordering.{first_word, levels_rise, words_apart, words_inverse}
+use Rattle.rate_matrix.specs.Elimination.{outflow_of}
+use Rattle.rate_matrix.specs.WordChains.{AreNeighbours, by_rank, rank_level, word_rates, word_top}
+
+-- the order is that of the words of the plan
+pub ordered_words : (p : PlanParts) (order : WordOrder) → order.units ≡ units p → IsInOrder order.units order.words
+    → IsInOrder (units p) order.words
+ordered_words p order e h = subst (λ n. IsInOrder n order.words) e h
+
+module _ (p : PlanParts) (order : WordOrder) (accepted : IsAccepted p) (h : IsInOrder (units p) order.words) where
+  pub inverse : AreInverse (words p) (word_at order) (rank_of (units p))
+  inverse = words_inverse (units p) order.words h
+
+  first_none : (m : ℕ) → m < words p → 0 < m → 0 < word_at order m
+  first_none m l pos = elim (cases_lt 0 (word_at order m)) [
+    | inl k ↦ k
+    | inr k ↦
+        let zero_word : word_at order m ≡ word_at order 0 = (let z : word_at order m ≡ 0 = omega arith in z) ∙ sym (first_word (units p) order.words h) in
+        let same : m ≡ 0 = words_apart (units p) order.words h m 0 l (omega arith) zero_word in
+        absurd (omega arith)
+  ]
+
+  pub chain_descends : Descends (words p) (word_rates p order)
+  chain_descends m pos l =
+      let v = word_at order m in
+      let below : word_at order m < 2 ^ units p = h.within m l in
+      let n = busy_exists (units p) (word_at order m) below (first_none m l pos) in
+      let next : turned (word_at order m) n.0 < 2 ^ units p = turned_lt (units p) (word_at order m) n.0 below n.1 in
+      let to = rank_of (units p) (turned (word_at order m) n.0) in
+      let to_word : word_at order (rank_of (units p) (turned (word_at order m) n.0)) ≡ turned (word_at order m) n.0 = inverse.to_back (turned (word_at order m) n.0) next in
+      (
+        rank_of (units p) (turned (word_at order m) n.0),
+        elim (cases_lt (rank_of (units p) (turned (word_at order m) n.0)) m) [
+          | inl k ↦ k
+          | inr k ↦
+              let rises = levels_rise (units p) order.words h m (rank_of (units p) (turned (word_at order m) n.0)) k (inverse.back_below (turned (word_at order m) n.0) next) in
+              absurd (omega (arith, rises, ap (level (units p)) to_word, level_down (units p) (word_at order m) n.0 n.1 n.2))
+        ],
+        subst (λ w. 0 < word_table p (word_at order m) w) (sym to_word) (service_positive p accepted (word_at order m) n.0 n.1 n.2),
+      )
+
+  fewer_between : (rate : RateTable) (i j : ℕ) → between_states rate i j ≤ rate i j
+  fewer_between rate i j = at_most (eqb i j) (rate i j)
+    where
+      at_most : (b : Bool) (k : ℕ) → cond b 0 k ≤ k
+      at_most true k = omega arith
+      at_most false k = omega arith
+
+  pub chain_bounded : (i : ℕ) → i < words p → outflow_of (words p) (word_rates p order) i ≤ word_top p
+  chain_bounded i l =
+      omega (
+        arith,
+        sum-le (words p) (between_states (word_rates p order) i) (word_rates p order i) (λ j k. fewer_between (word_rates p order) i j),
+        sum_relabelled (words p) (word_at order) (rank_of (units p)) (word_table p (word_at order i)) inverse,
+        leaving_row p accepted (word_at order i) (h.within i l),
+        leaving_le p (word_at order i),
+      )
+
+  by_rank_at : (xs : List ℕ) (i : ℕ) → i < words p → mass_in (by_rank order xs) i ≡ mass_in xs (word_at order i)
+  by_rank_at xs i l = get_or-map (mass_in xs) order.words i 0 0 (omega (arith, h.one_each))
+
+  pub chain_balance : (xs : List ℕ) → length xs ≡ words p
+      → SolvesWords p xs ↔ IsTableSolution (words p) (word_rates p order) (by_rank order xs)
+  chain_balance xs one_each = (
+    λ s. record {
+      one_each = length-map (mass_in xs) order.words ∙ h.one_each;
+      solves = solves_alike (words p) (word_rates p order) (λ i. mass_in xs (word_at order i)) (mass_in (by_rank order xs)) (by_rank_at xs)
+          (renumbered (words p) (word_at order) (rank_of (units p)) (word_table p) (mass_in xs) inverse (solves_word_table p accepted xs s));
+    },
+    λ s. table_solves_words p accepted xs one_each
+        (renumbered_back (words p) (word_at order) (rank_of (units p)) (word_table p) (mass_in xs) inverse
+        (solves_alike (words p) (word_rates p order) (mass_in (by_rank order xs)) (λ i. mass_in xs (word_at order i)) (λ i l. sym (by_rank_at xs i l)) s.solves)),
+  )
+
+-- one unit alone changes from a word to another with a rate
+pub far_words : (p : PlanParts) (v w : ℕ)
+    → ((level (units p) v + 1 < level (units p) w) ⊎ (level (units p) w + 1 < level (units p) v)) → word_table p v w ≡ 0
+far_words p v w far = table_elsewhere p v w (λ n l e.
+    let moved = ap (level (units p)) e in
+    on_test (is_busy v n)
+    (λ b. elim far [
+      | inl k ↦ omega (arith, moved, level_down (units p) v n l b)
+      | inr k ↦ omega (arith, moved, level_down (units p) v n l b)
+    ])
+    (λ b. elim far [
+      | inl k ↦ omega (arith, moved, level_up (units p) v n l b)
+      | inr k ↦ omega (arith, moved, level_up (units p) v n l b)
+    ]))

@@ -1,0 +1,33 @@
+use Rattle.std.proofs.Common.{◌≡◌, ◌+◌, ◌-◌, ◌*◌, ◌/◌, ◌<◌, ◌≤◌, ℕ, List, ◌++◌, length, take, drop, subst, sym, ap, ◌∙◌, rules, arith, length-take}
+use Rattle.std.proofs.lemmas.List.{places, take_at}
+use Rattle.std.proofs.lemmas.Nat.{div-mul-add}
+use Rattle.fixed_interval.specs.Ends.{Ends}
+use Rattle.rate_matrix.specs.Rows.{AreAfter, CanEliminate, rows_from}
+use Rattle.rate_matrix.proofs.rows.Elimination.update_first.Goals as goal
+
+length_taken : (xs : List Ends) (n : ℕ) → n ≤ length xs → length (take n xs) ≡ n
+length_taken xs n h = search (rules, places)
+
+rows_taken : (xs : List Ends) (r w : ℕ) → 0 < w → r * w ≤ length xs → length (take (r * w) xs) / w ≡ r
+rows_taken xs r w h l = let e : r * w ≡ r * w + 0 = omega arith in
+    ap (λ n. n / w) (length_taken xs (r * w) l ∙ e) ∙ div-mul-add r w 0 h
+
+pub update_chunks-requires-clause-rows : goal.update_chunks-requires-clause-rows
+update_chunks-requires-clause-rows g c _ _ =
+    let column = c.requires.rows.column in
+    subst (λ r. CanEliminate c.args.self.now.state c.args.self.now.scale c.args.self.now.flows.now c.args.self.now.parts.now
+    (rows_from c.args.first r c.args.left c.args.width (take (c.args.rows * c.args.width) c.args.cells.now)))
+    (sym (rows_taken c.args.cells.now c.args.rows c.args.width (omega arith) c.requires.inside))
+    c.requires.rows
+
+pub returns-clause-rows : goal.returns-clause-rows
+returns-clause-rows g c =
+    let column = c.requires.rows.column in
+    let done = c.update_chunks.ensures in
+    let len = done.count ∙ length_taken c.args.cells.now (c.args.rows * c.args.width) c.requires.inside in
+    subst (AreAfter c.args.self.now.state c.args.self.now.scale c.args.self.now.flows.now c.args.self.now.parts.now
+    (rows_from c.args.first c.args.rows c.args.left c.args.width (take (c.args.rows * c.args.width) c.args.cells.now)))
+    (sym (take_at c.update_chunks.new.rows _ _ len))
+    (subst (λ r. AreAfter c.args.self.now.state c.args.self.now.scale c.args.self.now.flows.now c.args.self.now.parts.now
+    (rows_from c.args.first r c.args.left c.args.width (take (c.args.rows * c.args.width) c.args.cells.now)) c.update_chunks.new.rows)
+    (rows_taken c.args.cells.now c.args.rows c.args.width (omega arith) c.requires.inside) done)
