@@ -4,15 +4,15 @@
 ghost use Rattle.state_reduction.specs.Laws.{BeginsSound, HoldsEverySolution, IsDetermined, MatricesBegin, StaysSound};
 ghost use Rattle.rate_matrix.specs.Levels.{ZerosStay};
 
+mod elimination;
 mod parts;
 mod reduction;
 mod row;
-mod steps;
 
+pub use elimination::step;
 pub use parts::leaving;
 pub use reduction::{reduce, reduce_packed, reduce_rows};
 pub use row::Row;
-pub use steps::step;
 
 /// What an elimination leaves holds every solution of the balance equations.
 ///

@@ -3,8 +3,8 @@ ghost use Rattle.rate_matrix.specs.Bands.{HasSameFrame, cap, entry};
 ghost use Rattle.rate_matrix.specs.Elimination.{left_after};
 ghost use Rattle.state_reduction.specs.Laws.{HoldsSolutions};
 
+use crate::elimination::{eliminate, eliminate_by_workers};
 use crate::row::Row;
-use crate::steps::{eliminate, eliminate_by_workers};
 use rate_matrix::{Gate, RateMatrix};
 use std::thread::Threads;
 
@@ -67,6 +67,7 @@ pub fn reduce_rows<R: Threads + Sync, G: Gate + Sync>(
     ensures solutions { HoldsSolutions m.old m.new }
     ensures row { length scratch.new ≡ length scratch.old }
 {
+    let _size = m.size();
     while m.alive() > 1 {
         eliminate_by_workers(rt, m, scratch, workers, gate, place);
     }
@@ -82,6 +83,7 @@ fn eliminate_all(m: &mut RateMatrix, scratch: &mut Row)
     ensures solutions { HoldsSolutions m.old m.new }
     ensures row { length scratch.new ≡ length scratch.old }
 {
+    let _size = m.size();
     while m.alive() > 1 {
         eliminate(m, scratch);
     }

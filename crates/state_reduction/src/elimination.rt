@@ -118,6 +118,7 @@ fn raise_entry(m: &mut RateMatrix, i: usize, j: usize, into: Iv, part: Iv)
     ensures others { (p q : ℕ) → p < m.old.size → q < m.old.size → (p ≡ i → q ≢ j)
         → entry m.new p q ≡ entry m.old p q }
 {
+    let _size = m.size();
     if i == j || part.hi() == 0 {
         return;
     }
