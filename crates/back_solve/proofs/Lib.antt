@@ -2,4 +2,5 @@
 pub mod NextWeight
 pub mod WeightLists
 pub mod Tail
+pub mod Solving
 mod Worked

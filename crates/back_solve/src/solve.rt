@@ -25,8 +25,9 @@ pub fn solve_back(m: &RateMatrix, out: &mut Weights)
     ensures encloses { (ys : List ℕ) → length ys ≡ m.now.size → HoldsAll m.now.size (entry m.now) (mass_in ys)
         → EnclosesAll out.new.items ys }
 {
+    let size = m.size();
     out.push_shifting(Iv::exact(1 << 52).wide());
-    for state in 1..m.size() {
+    for state in 1..size {
         let weight = next_weight(m, state, out);
         out.push_shifting(weight);
     }
