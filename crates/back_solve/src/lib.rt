@@ -2,7 +2,6 @@
 #![tactic(auto)]
 
 ghost use Rattle.back_solve.specs.Laws.{AreWeightsDetermined, DependOnEntries, NextWeightFits, WeightsEnclose, WeightsInRange};
-ghost use Rattle.back_solve.specs.Tail.{TailEncloses, TailFits};
 
 mod solve;
 
@@ -23,11 +22,4 @@ pub fn law_weights()
 pub fn law_weights_determined()
     ensures one { AreWeightsDetermined }
     ensures entries { DependOnEntries }
-{}
-
-/// Weights that enclose the masses of the words enclose, with the tail's weight, also the mass of all states in
-/// which a call waits.
-pub fn law_tail()
-    ensures encloses { TailEncloses }
-    ensures next { TailFits }
 {}

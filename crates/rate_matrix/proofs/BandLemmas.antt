@@ -138,10 +138,12 @@ sound_changed m bs s count shape cells grows within = record {
   caps = s.caps;
   banded = banded_changed m bs s.banded count shape cells;
   within = within;
-  live = record { leaves = λ i p l.
-      let more = sum-le i (λ k. (entry m i k).lo) (λ k. (entry (with_bands m bs) i k).lo)
-      (λ k q. grows i k l (omega arith)) in
-      omega (arith, more, s.live.leaves i p l) };
+  live = record {
+    leaves = λ i p l.
+        let more = sum-le i (λ k. (entry m i k).lo) (λ k. (entry (with_bands m bs) i k).lo)
+        (λ k q. grows i k l (omega arith)) in
+        omega (arith, more, s.live.leaves i p l);
+  };
 }
 
 -- another band at one level

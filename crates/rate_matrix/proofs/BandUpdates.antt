@@ -137,10 +137,10 @@ module _ (state scale : ℕ) (outflows : List ℕ) (shares : List Ends) (b : Ban
               let kj : HasColumn head j = record { from = k.from; to = k.to } in
               let here : cell_of (record b { cells = new }) i j ≡ get_or (take (rows * b.width) new) (place_in b i j) (exact_ends 0) = sym (taken new (place_in b i j) (head_place i j hi k)) in (
                 here
-                ∙ done.each i j hi kj
-                ∙ raised_by-alike (part_in shares) (cell_of head) (band_entry b) (λ x. scale * slice_index outflows x) state i j
-                (head_cell i j hi k ∙ sym (band_entry_kept b i j k))
-                (head_cell i state hi column ∙ sym (band_entry_kept b i state column)),
+                    ∙ done.each i j hi kj
+                    ∙ raised_by-alike (part_in shares) (cell_of head) (band_entry b) (λ x. scale * slice_index outflows x) state i j
+                    (head_cell i j hi k ∙ sym (band_entry_kept b i j k))
+                    (head_cell i state hi column ∙ sym (band_entry_kept b i state column)),
                 λ ne. subst (λ x. x.lo ≤ x.hi) (sym here) (done.ordered i j hi kj ne),
               )
           | inr g ↦
@@ -150,7 +150,7 @@ module _ (state scale : ℕ) (outflows : List ℕ) (shares : List Ends) (b : Ban
               ∙ ap (λ x. get_or x (place_in b i j - rows * b.width) (exact_ends 0)) rest
               ∙ sym (dropped b.cells (place_in b i j) (omega (arith, behind))) in (
                 same ∙ sym (band_entry_kept b i j k)
-                ∙ sym (raised_by-stays (part_in shares) (band_entry b) (λ x. scale * slice_index outflows x) state i j (is_raised-from state i j (omega (arith, h.to)))),
+                    ∙ sym (raised_by-stays (part_in shares) (band_entry b) (λ x. scale * slice_index outflows x) state i j (is_raised-from state i j (omega (arith, h.to)))),
                 λ ne. subst (λ x. x.lo ≤ x.hi) (sym same) (can.ordered i j h k ne),
               )
         ]
@@ -162,11 +162,12 @@ module _ (state scale : ℕ) (outflows : List ℕ) (shares : List Ends) (b : Ban
             (λ t. let k = has_column_of b j t in
             let is = band_entry_kept (record b { cells = new }) i j (record { from = k.from; to = k.to }) in
             (is ∙ (kept i j h k).0, λ ne. subst (λ x. x.lo ≤ x.hi) (sym is) ((kept i j h k).1 ne)))
-            (λ f. let is = band_entry_none (record b { cells = new }) i j f in
-            (is ∙ sym (band_entry_none b i j f)
-            ∙ sym (raised_by-nothing (part_in shares) (band_entry b) (λ x. scale * slice_index outflows x) state i j (in_order i j h) (in_cap i j h)
-            (λ l k. ap (times_part_ends (band_entry b i state)) (can.outside i j h l column k (λ q. true≢false (sym (has_column_true b j q) ∙ f))) ∙ times_zero (band_entry b i state))),
-            λ ne. subst (λ x. x.lo ≤ x.hi) (sym is) (omega arith)))
+            (λ f. let is = band_entry_none (record b { cells = new }) i j f in (
+              is ∙ sym (band_entry_none b i j f)
+                  ∙ sym (raised_by-nothing (part_in shares) (band_entry b) (λ x. scale * slice_index outflows x) state i j (in_order i j h) (in_cap i j h)
+                  (λ l k. ap (times_part_ends (band_entry b i state)) (can.outside i j h l column k (λ q. true≢false (sym (has_column_true b j q) ∙ f))) ∙ times_zero (band_entry b i state))),
+              λ ne. subst (λ x. x.lo ≤ x.hi) (sym is) (omega arith),
+            ))
 
 -- the same for cells as the code has them
 pub updated_cells : (state scale : ℕ) (outflows : List ℕ) (shares : List Ends) (b : BandOfRows)

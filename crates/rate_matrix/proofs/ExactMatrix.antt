@@ -74,33 +74,33 @@ pub filled_more : (n : ℕ) (rates : RateTable) (scale : ℕ) (packed : Bool) (l
     → AreFilledTo n rates scale packed levels (i + 1) old (set new k c) more
 filled_more n rates scale packed levels i old new flows k a c flow more b f l k_is a_is r more_is =
     subst (AreFilledTo n rates scale packed levels (i + 1) old (set new k c)) (sym more_is) record {
-  count = length-set new k c ∙ f.count;
-  shape = λ x. band_changed (HasSameShape (band_at before x)) now k x c within
-      (λ e. shape_trans (band_at before x) a c (subst (HasSameShape (band_at before x)) (ap (band_at now) e ∙ sym same_band) (f.shape x)) r.shape)
-      (λ _. f.shape x);
-  cells = λ x h. band_changed (λ y. length y.cells ≡ length (band_at before x).cells) now k x c within
-      (λ e. r.count ∙ ap (λ y. length y.cells) (same_band ∙ ap (band_at now) (sym e)) ∙ f.cells x h)
-      (λ _. f.cells x h);
-  flow_count = length_push flows flow ∙ ap (λ x. x + 1) f.flow_count;
-  flow = λ p h. elim (cases_eq p i) [
-    | inl e ↦ get_or_push flows flow 0 p (f.flow_count ∙ sym e) ∙ r.total ∙ ap (outflow_of n rates) (sym e)
-    | inr ne ↦ let less : p < length flows = omega (arith, f.flow_count, ne) in
-        get_or_append_left flows (flow ∷ []) 0 p less ∙ f.flow p (omega (arith, ne))
-  ];
-  done = λ p q h lq kq. band_changed (λ y. cell_of y p q ≡ exact_ends (scale * between_states rates p q)) now k (slice_index levels p) c within
-      (λ e. elim (cases_eq p i) [
-        | inl s ↦ subst (λ z. cell_of c z q ≡ exact_ends (scale * between_states rates z q)) (sym s)
-            (r.entries q (column_here p q e kq))
-        | inr ne ↦
-            r.others p q (row_here p e (omega arith)) (column_here p q e kq) ne
-            ∙ ap (λ y. cell_of y p q) (same_band ∙ ap (band_at now) (sym e))
-            ∙ f.done p q (omega (arith, ne)) lq kq
-      ])
-      (λ ne. elim (cases_eq p i) [
-        | inl s ↦ absurd (ne (ap (slice_index levels) s ∙ sym level))
-        | inr np ↦ f.done p q (omega (arith, np)) lq kq
-      ]);
-}
+      count = length-set new k c ∙ f.count;
+      shape = λ x. band_changed (HasSameShape (band_at before x)) now k x c within
+          (λ e. shape_trans (band_at before x) a c (subst (HasSameShape (band_at before x)) (ap (band_at now) e ∙ sym same_band) (f.shape x)) r.shape)
+          (λ _. f.shape x);
+      cells = λ x h. band_changed (λ y. length y.cells ≡ length (band_at before x).cells) now k x c within
+          (λ e. r.count ∙ ap (λ y. length y.cells) (same_band ∙ ap (band_at now) (sym e)) ∙ f.cells x h)
+          (λ _. f.cells x h);
+      flow_count = length_push flows flow ∙ ap (λ x. x + 1) f.flow_count;
+      flow = λ p h. elim (cases_eq p i) [
+        | inl e ↦ get_or_push flows flow 0 p (f.flow_count ∙ sym e) ∙ r.total ∙ ap (outflow_of n rates) (sym e)
+        | inr ne ↦ let less : p < length flows = omega (arith, f.flow_count, ne) in
+            get_or_append_left flows (flow ∷ []) 0 p less ∙ f.flow p (omega (arith, ne))
+      ];
+      done = λ p q h lq kq. band_changed (λ y. cell_of y p q ≡ exact_ends (scale * between_states rates p q)) now k (slice_index levels p) c within
+          (λ e. elim (cases_eq p i) [
+            | inl s ↦ subst (λ z. cell_of c z q ≡ exact_ends (scale * between_states rates z q)) (sym s)
+                (r.entries q (column_here p q e kq))
+            | inr ne ↦
+                r.others p q (row_here p e (omega arith)) (column_here p q e kq) ne
+                ∙ ap (λ y. cell_of y p q) (same_band ∙ ap (band_at now) (sym e))
+                ∙ f.done p q (omega (arith, ne)) lq kq
+          ])
+          (λ ne. elim (cases_eq p i) [
+            | inl s ↦ absurd (ne (ap (slice_index levels) s ∙ sym level))
+            | inr np ↦ f.done p q (omega (arith, np)) lq kq
+          ]);
+    }
   where
     before : BandedRates
     before = laid_out n packed levels old
@@ -208,10 +208,12 @@ module _ (n : ℕ) (rates : RateTable) (top : ℕ) (packed : Bool) (levels flows
       ∙ sum-scaled k (2 ^ 62 / top) (between_states rates i)
 
   live_after : IsLive n (2 ^ 62 / top) (entry made)
-  live_after = record { leaves = λ m pos l.
-      let to = descends_between n rates chain.descends m pos l in
-      let one : 1 ≤ sum_below m (between_states rates m) = omega (arith, to.2, place_le_sum m (between_states rates m) to.0 to.1) in
-      omega (arith, lows_are m m l (omega arith), mul-le-mul_left (2 ^ 62 / top) one) }
+  live_after = record {
+    leaves = λ m pos l.
+        let to = descends_between n rates chain.descends m pos l in
+        let one : 1 ≤ sum_below m (between_states rates m) = omega (arith, to.2, place_le_sum m (between_states rates m) to.0 to.1) in
+        omega (arith, lows_are m m l (omega arith), mul-le-mul_left (2 ^ 62 / top) one);
+  }
 
   within_after : IsWithin n (cap made) (entry made)
   within_after = record {

@@ -10,3 +10,5 @@ pub mod RowChunks
 pub mod BandUpdates
 pub mod MatrixUpdates
 pub mod WordChains
+pub mod LevelRanks
+pub mod PackedWords

@@ -54,9 +54,9 @@ module _ (m : BandedRates) (shares : List Ends) (s : IsSound m) (gone : m.alive 
         (s.within.capped i j (s.banded.own l i h r).0 (in_size j k) ne);
     outside = λ i j r before state_kept j_before not_kept.
         zeros j j_before (λ kept.
-          let falls = s.banded.falls i m.alive (omega arith) gone in
-          let left = ap (λ b. b.left) (row_band l i h r) in
-          not_kept (record { from = omega (arith, falls, left, kept.from); to = omega (arith, state_kept.to) }));
+        let falls = s.banded.falls i m.alive (omega arith) gone in
+        let left = ap (λ b. b.left) (row_band l i h r) in
+        not_kept (record { from = omega (arith, falls, left, kept.from); to = omega (arith, state_kept.to) }));
   }
     where
       in_size : (j : ℕ) → HasColumn (band_at m l) j → j < m.size

@@ -64,7 +64,7 @@ module _ (state scale : ℕ) (outflows : List ℕ) (shares : List Ends) (b : Ban
 
   starts_inside : start / b.width < b.rows
   starts_inside = lt_of_mul-lt-mul_right b.width (
-    let below : start / b.width * b.width < b.rows * b.width = omega (arith, start_is, chunk.nonempty, chunk.in_bounds, can.cells) in below)
+      let below : start / b.width * b.width < b.rows * b.width = omega (arith, start_is, chunk.nonempty, chunk.in_bounds, can.cells) in below)
 
   pub part_is : length part ≡ length part / b.width * b.width
   part_is = chunk_rows c b.width (start / b.width) b.rows (length part) wide (omega (arith, starts_inside))
@@ -72,8 +72,8 @@ module _ (state scale : ℕ) (outflows : List ℕ) (shares : List Ends) (b : Ban
 
   pub ends_inside : start / b.width + length part / b.width ≤ b.rows
   ends_inside = le_of_mul-le-mul_right {k = b.width} (
-    let below : (start / b.width + length part / b.width) * b.width ≤ b.rows * b.width =
-        omega (arith, start_is, part_is, chunk.in_bounds, can.cells) in below) wide
+      let below : (start / b.width + length part / b.width) * b.width ≤ b.rows * b.width =
+      omega (arith, start_is, part_is, chunk.in_bounds, can.cells) in below) wide
 
   abbrev sub : BandOfRows
   sub = rows_from (b.first + start / b.width) (length part / b.width) b.left b.width part
@@ -119,11 +119,11 @@ module _ (state scale : ℕ) (outflows : List ℕ) (shares : List Ends) (b : Ban
   row_here i j offset h k e l = record {
     from =
         let after : start / b.width < i - b.first + 1 = lt_of_mul-lt-mul_right b.width (
-          let below : start / b.width * b.width < (i - b.first + 1) * b.width = omega (arith, start_is, k.from, k.to) in below) in
+        let below : start / b.width * b.width < (i - b.first + 1) * b.width = omega (arith, start_is, k.from, k.to) in below) in
         omega (arith, after, h.from);
     to =
         let before : i - b.first < start / b.width + length part / b.width = lt_of_mul-lt-mul_right b.width (
-          let below : (i - b.first) * b.width < (start / b.width + length part / b.width) * b.width = omega (arith, start_is, part_is) in below) in
+        let below : (i - b.first) * b.width < (start / b.width + length part / b.width) * b.width = omega (arith, start_is, part_is) in below) in
         omega (arith, before, h.from);
   }
 
@@ -136,8 +136,8 @@ module _ (state scale : ℕ) (outflows : List ℕ) (shares : List Ends) (b : Ban
       let place : place_in sub i j ≡ offset = omega (arith, place_sub i j row) in
       let here : cell_of (record sub { cells = after }) i j ≡ v = ap (λ x. get_or after x (exact_ends 0)) place ∙ v_is in (
         sym here ∙ done.each i j row column
-        ∙ raised_by-alike (part_in shares) (cell_of sub) (cell_of b) (λ x. scale * slice_index outflows x) state i j
-        (cell_sub i j row k) (cell_sub i state row can.column),
+            ∙ raised_by-alike (part_in shares) (cell_of sub) (cell_of b) (λ x. scale * slice_index outflows x) state i j
+            (cell_sub i j row k) (cell_sub i state row can.column),
         λ ne. subst (λ x. x.lo ≤ x.hi) here (done.ordered i j row column ne),
       )
 
@@ -145,8 +145,8 @@ module _ (state scale : ℕ) (outflows : List ℕ) (shares : List Ends) (b : Ban
 pub chunks_after : (state scale : ℕ) (outflows : List ℕ) (shares : List Ends) (b : BandOfRows) (new : List Ends)
     → CanEliminate state scale outflows shares b → length new ≡ length b.cells
     → ((i j : ℕ) → HasRow b i → HasColumn b j
-        → (cell_of (record b { cells = new }) i j ≡ raised_by (part_in shares) (cell_of b) (λ k. scale * slice_index outflows k) state i j)
-        × (i ≢ j → (cell_of (record b { cells = new }) i j).lo ≤ (cell_of (record b { cells = new }) i j).hi))
+    → (cell_of (record b { cells = new }) i j ≡ raised_by (part_in shares) (cell_of b) (λ k. scale * slice_index outflows k) state i j)
+    × (i ≢ j → (cell_of (record b { cells = new }) i j).lo ≤ (cell_of (record b { cells = new }) i j).hi))
     → AreAfter state scale outflows shares b new
 chunks_after state scale outflows shares b new can count each = record {
   count = count;

@@ -172,7 +172,7 @@ row_ends state scale outflows shares i left old new can r = record {
         → (cell_of (record (one_row i left old) { cells = new }) i (left + q)).lo ≤ (cell_of (record (one_row i left old) { cells = new }) i (left + q)).hi
     ordered_after q l apart = subst (λ z. z.lo ≤ z.hi) (sym (read new q)) (elim (cases_lt q (state - left)) [
       | inl k ↦ r.ordered q k apart
-      | inr k ↦ subst (λ z. z.lo ≤ z.hi) (sym (r.rest q k) )
+      | inr k ↦ subst (λ z. z.lo ≤ z.hi) (sym (r.rest q k))
           (subst (λ z. z.lo ≤ z.hi) (read old q)
           (can.ordered i (left + q) (record { from = omega arith; to = omega arith }) (record { from = omega arith; to = omega arith }) apart))
     ])

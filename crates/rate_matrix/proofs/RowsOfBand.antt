@@ -162,7 +162,7 @@ module _ (state scale : ℕ) (outflows : List ℕ) (shares : List Ends) (b : Ban
 
   pub can_slice : (n : ℕ) → n ≡ b.width
       → CanEliminate state scale outflows shares
-        (rows_from (b.first + r) 1 b.left (length (take n (drop (r * b.width) new))) (take n (drop (r * b.width) new)))
+      (rows_from (b.first + r) 1 b.left (length (take n (drop (r * b.width) new))) (take n (drop (r * b.width) new)))
   can_slice n e =
       subst (λ k. CanEliminate state scale outflows shares
       (rows_from (b.first + r) 1 b.left (length (take k (drop (r * b.width) new))) (take k (drop (r * b.width) new)))) (sym e)
@@ -170,7 +170,7 @@ module _ (state scale : ℕ) (outflows : List ℕ) (shares : List Ends) (b : Ban
 
   pub slice_more : (n : ℕ) (after : List Ends) → n ≡ b.width
       → AreAfter state scale outflows shares
-        (rows_from (b.first + r) 1 b.left (length (take n (drop (r * b.width) new))) (take n (drop (r * b.width) new))) after
+      (rows_from (b.first + r) 1 b.left (length (take n (drop (r * b.width) new))) (take n (drop (r * b.width) new))) after
       → AreRowsUpdatedTo state scale outflows shares b (put_mid (r * b.width) n new after) (r + 1)
   slice_more n after e done =
       subst (λ k. AreRowsUpdatedTo state scale outflows shares b (put_mid (r * b.width) k new after) (r + 1)) (sym e)
@@ -182,9 +182,9 @@ module _ (state scale : ℕ) (outflows : List ℕ) (shares : List Ends) (b : Ban
       (λ k l. put_above new after (r * b.width) b.width k (exact_ends 0) l len row_fits))
     where
       here : AreAfter state scale outflows shares
-        (rows_from (b.first + r) 1 b.left (length (take b.width (drop (r * b.width) new))) (take b.width (drop (r * b.width) new))) after
+          (rows_from (b.first + r) 1 b.left (length (take b.width (drop (r * b.width) new))) (take b.width (drop (r * b.width) new))) after
       here = subst (λ k. AreAfter state scale outflows shares
-        (rows_from (b.first + r) 1 b.left (length (take k (drop (r * b.width) new))) (take k (drop (r * b.width) new))) after) e done
+          (rows_from (b.first + r) 1 b.left (length (take k (drop (r * b.width) new))) (take k (drop (r * b.width) new))) after) e done
 
       len : length after ≡ b.width
       len = here.count ∙ slice_len

@@ -1,6 +1,7 @@
 -- The words of a plan as the states of a chain: why it is one, and that its balance is the plan's.
-use Rattle.std.proofs.Common.{◌≡◌, ◌≢◌, ℕ, ◌+◌, ◌-◌, ◌*◌, ◌^◌, ◌<◌, ◌≤◌, ◌↔◌, Bool, true, false, cond, eqb, List, length, map, get_or, slice_index, refl, sym, ap, subst, ◌∙◌, inl, inr, arith}
+use Rattle.std.proofs.Common.{◌≡◌, ◌≢◌, ℕ, ◌+◌, ◌-◌, ◌*◌, ◌^◌, ◌<◌, ◌≤◌, ◌↔◌, ◌⊎◌, Bool, true, false, cond, eqb, List, length, map, get_or, slice_index, refl, sym, ap, subst, ◌∙◌, inl, inr, arith}
 use Rattle.std.proofs.lemmas.Bool.{cases_lt, cases_eq}
+use Rattle.std.proofs.lemmas.List.{get_or-map, length-map}
 use Rattle.hyper_model.specs.declared.parts.PlanParts.{PlanParts}
 use Rattle.hyper_model.specs.Sums.{sum_below}
 use Rattle.hyper_model.specs.Plans.{units, all_calls, all_service, split, IsAccepted}
@@ -16,7 +17,7 @@ use Rattle.hyper_model.proofs.Chains.{solves_alike}
 use Rattle.hyper_model.proofs.Relabel.{AreInverse, relabelled, renumbered, renumbered_back, sum_relabelled}
 use Rattle.hyper_model.proofs.WordTables.{service_positive}
 use Rattle.hyper_model.proofs.WordRates.{leaving_le, leaving_row, table_at_turned, table_elsewhere}
-use Rattle.hyper_model.proofs.PlanLaws.{solves_word_table}
+use Rattle.hyper_model.proofs.PlanLaws.{solves_word_table, table_solves_words}
 use Rattle.busy_words.specs.Order.{IsInOrder, WordOrder, rank_of, word_at}
 use Rattle.busy_words.proofs.Ordering.{first_word, levels_rise, words_apart, words_inverse}
 use Rattle.rate_matrix.specs.Elimination.{outflow_of}
@@ -47,8 +48,7 @@ module _ (p : PlanParts) (order : WordOrder) (accepted : IsAccepted p) (h : IsIn
       let n = busy_exists (units p) (word_at order m) below (first_none m l pos) in
       let next : turned (word_at order m) n.0 < 2 ^ units p = turned_lt (units p) (word_at order m) n.0 below n.1 in
       let to = rank_of (units p) (turned (word_at order m) n.0) in
-      let to_word : word_at order (rank_of (units p) (turned (word_at order m) n.0)) ≡ turned (word_at order m) n.0 = inverse.to_back (turned (word_at order m) n.0) next in
-      (
+      let to_word : word_at order (rank_of (units p) (turned (word_at order m) n.0)) ≡ turned (word_at order m) n.0 = inverse.to_back (turned (word_at order m) n.0) next in (
         rank_of (units p) (turned (word_at order m) n.0),
         elim (cases_lt (rank_of (units p) (turned (word_at order m) n.0)) m) [
           | inl k ↦ k
@@ -83,7 +83,7 @@ module _ (p : PlanParts) (order : WordOrder) (accepted : IsAccepted p) (h : IsIn
       → SolvesWords p xs ↔ IsTableSolution (words p) (word_rates p order) (by_rank order xs)
   chain_balance xs one_each = (
     λ s. record {
-      one_each = length-map (mass_in xs) order.words ∙ h.one_each;
+      one_each = length-map order.words (mass_in xs) ∙ h.one_each;
       solves = solves_alike (words p) (word_rates p order) (λ i. mass_in xs (word_at order i)) (mass_in (by_rank order xs)) (by_rank_at xs)
           (renumbered (words p) (word_at order) (rank_of (units p)) (word_table p) (mass_in xs) inverse (solves_word_table p accepted xs s));
     },

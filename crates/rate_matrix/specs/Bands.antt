@@ -109,7 +109,7 @@ parts_matrix size scale packed flows levels bands = record {
   packed = packed;
   flows = flows;
   levels = levels;
-  bands = bands
+  bands = bands;
 }
 
 -- rows and columns for so many states

@@ -4,3 +4,4 @@ pub mod Rows
 pub mod Levels
 pub mod Weights
 pub mod WordChains
+pub mod LevelBands

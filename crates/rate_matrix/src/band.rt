@@ -45,8 +45,13 @@ impl Band {
     ) -> Result<Self, AllocError>
         requires rows { first + rows ≤ 4096 }
         requires columns { left + width ≤ 4096 }
-        ensures { IfOk result (λ band. band ≡ record { first = first; rows = rows; left = left;
-            width = width; cells = replicate (rows * width) (exact_ends 0) }) }
+        ensures { IfOk result (λ band. band ≡ record {
+          first = first;
+          rows = rows;
+          left = left;
+          width = width;
+          cells = replicate (rows * width) (exact_ends 0);
+        }) }
     {
         Ok(Band {
             first,
@@ -131,8 +136,30 @@ impl Band {
         if rows == 0 || !self.has_column(elimination.state) {
             return;
         }
-        elimination
-            .update_first(rt, workers, &mut self.cells, self.first, rows, self.left, self.width);
+        elimination.update_first(
+            rt,
+            workers,
+            &mut self.cells,
+            self.first,
+            rows,
+            self.left,
+            self.width,
+        );
+    }
+
+    /// Changes the rows of the states before the one that is eliminated, without threads.
+    pub(crate) fn update_alone<G: Gate>(&mut self, elimination: &Elimination<'_, G>)
+        requires state { elimination.now.state ≤ 4096 }
+        requires band { CanUpdate elimination.now.state elimination.now.scale elimination.now.flows.now
+            elimination.now.parts.now self.old }
+        ensures { IsUpdated elimination.now.state elimination.now.scale elimination.now.flows.now
+            elimination.now.parts.now self.old self.new }
+    {
+        let rows = self.rows.min(elimination.state.saturating_sub(self.first));
+        if rows == 0 || !self.has_column(elimination.state) {
+            return;
+        }
+        elimination.update_first_alone(&mut self.cells, self.first, rows, self.left, self.width);
     }
 }
 

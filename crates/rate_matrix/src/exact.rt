@@ -1,6 +1,6 @@
 ghost use Rattle.std.specs.Prelude.{◌≡◌, ◌≢◌, ℕ, ◌/◌, ◌^◌, ◌<◌, false, IfOk};
 ghost use Rattle.hyper_model.specs.Tables.{between_states};
-ghost use Rattle.rate_matrix.specs.Bands.{IsBanded, IsMatrixOf, band_of, has_column, laid_out};
+ghost use Rattle.rate_matrix.specs.Bands.{HasSameShape, IsBanded, IsMatrixOf, band_of, has_column, laid_out};
 
 use crate::band::Band;
 use crate::chain::Chain;
@@ -37,7 +37,8 @@ impl RateMatrix {
             → between_states (C.rates chain.now) i j ≡ 0 }
         ensures rates { IfOk result (IsMatrixOf (C.states chain.now) (C.rates chain.now) (C.most chain.now)) }
         ensures form { IfOk result (λ m. m.packed ≡ packed) }
-        ensures levels { IfOk result (λ m. m.levels ≡ levels.items) }
+        ensures shape { IfOk result (λ m. (i : ℕ) → HasSameShape
+            (band_of (laid_out (C.states chain.now) packed levels.items bands.items) i) (band_of m i)) }
     {
         let size = chain.size();
         let scale = (1 << 62) / chain.top();

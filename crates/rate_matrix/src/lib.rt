@@ -6,11 +6,14 @@ mod chain;
 mod exact;
 mod gate;
 mod matrix;
+mod packed;
 mod rows;
+mod sharing;
 mod update;
 mod words;
 
 pub use chain::{Chain, law_descending};
 pub use gate::{Gate, OpenGate};
 pub use matrix::RateMatrix;
+pub use sharing::shows_shared_matrix;
 pub use words::WordChain;

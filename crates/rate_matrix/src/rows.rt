@@ -72,14 +72,34 @@ impl<G: Gate + Sync> Elimination<'_, G> {
             requires small { first + start / width ≤ 4096 }
             ensures { AreAfter self.entry.now.state self.entry.now.scale self.entry.now.flows.now self.entry.now.parts.now
                 (rows_from (first + start / width) (length part.entry.now / width) left width part.entry.now) part.exit.now }
-        {
-            self.update_rows(part, first + start / width, left, width)
-        };
+        { self.update_rows(part, first + start / width, left, width) };
         thread::for_each_chunk_mut(rt, rows, chunk * width, &each);
     }
 }
 
 impl<G: Gate> Elimination<'_, G> {
+    /// Changes the first rows of these, one after the other.
+    pub(crate) fn update_first_alone(
+        &self,
+        cells: &mut [Iv],
+        first: usize,
+        rows: usize,
+        left: usize,
+        width: usize,
+    )
+        requires some { 0 < rows }
+        requires few { rows ≤ 4096 }
+        requires narrow { width ≤ 4096 }
+        requires inside { rows * width ≤ length cells.old }
+        requires rows { CanEliminate self.now.state self.now.scale self.now.flows.now self.now.parts.now
+            (rows_from first rows left width (take (rows * width) cells.old)) }
+        ensures rows { AreAfter self.now.state self.now.scale self.now.flows.now self.now.parts.now
+            (rows_from first rows left width (take (rows * width) cells.old)) (take (rows * width) cells.new) }
+        ensures rest { drop (rows * width) cells.new ≡ drop (rows * width) cells.old }
+    {
+        self.update_rows(&mut cells[..rows * width], first, left, width);
+    }
+
     /// Changes rows of `width` columns from `left` on, the first of which is that of the state `first`.
     pub(crate) fn update_rows(&self, rows: &mut [Iv], first: usize, left: usize, width: usize)
         requires { CanEliminate self.now.state self.now.scale self.now.flows.now self.now.parts.now

@@ -5,7 +5,7 @@ ghost use Rattle.rate_matrix.specs.Elimination.{raised_by};
 ghost use Rattle.rate_matrix.specs.Rows.{CanUpdate, IsUpdated, part_in};
 
 use crate::band::Band;
-use crate::gate::Gate;
+use crate::gate::{Gate, OpenGate};
 use crate::matrix::RateMatrix;
 use crate::rows::Elimination;
 use fixed_interval::Iv;
@@ -49,6 +49,30 @@ impl RateMatrix {
         };
         update_bands(rt, workers, &elimination, &mut self.bands);
     }
+
+    /// The same change as that of `update_rows`, without threads: one row after the other.
+    pub fn update_rows_alone(&mut self, parts: &[Iv])
+        requires packed { self.old.packed ≡ true }
+        requires eliminated { self.old.alive < self.old.size }
+        requires parts { self.old.alive ≤ length parts.now }
+        requires kept { (j : ℕ) → j < self.old.alive → ¬ IsKept self.old self.old.alive j
+            → part_in parts.now j ≡ exact_ends 0 }
+        ensures frame { HasSameFrame self.old self.new }
+        ensures alive { self.new.alive ≡ self.old.alive }
+        ensures entries { (i j : ℕ) → i < self.old.size → j < self.old.size → entry self.new i j
+            ≡ raised_by (part_in parts.now) (entry self.old) (cap self.old) self.old.alive i j }
+    {
+        let gate = OpenGate;
+        let elimination = Elimination {
+            state: self.alive,
+            scale: self.scale,
+            flows: &self.flows,
+            parts,
+            gate: &gate,
+            place: 0,
+        };
+        update_bands_alone(&elimination, &mut self.bands);
+    }
 }
 
 /// Changes the rows of every band, one band after the other.
@@ -67,5 +91,18 @@ pub(crate) fn update_bands<R: Threads + Sync, G: Gate + Sync>(
 {
     for level in 0..bands.len() {
         bands[level].update(rt, workers, elimination);
+    }
+}
+
+/// Changes the rows of every band, one after the other and without threads.
+pub(crate) fn update_bands_alone<G: Gate>(elimination: &Elimination<'_, G>, bands: &mut [Band])
+    requires state { elimination.now.state ≤ 4096 }
+    requires bands { (l : ℕ) → l < length bands.old → CanUpdate elimination.now.state elimination.now.scale
+        elimination.now.flows.now elimination.now.parts.now (slice_index_or bands.old l no_band) }
+    ensures { (l : ℕ) → l < length bands.old → IsUpdated elimination.now.state elimination.now.scale
+        elimination.now.flows.now elimination.now.parts.now (slice_index_or bands.old l no_band) (slice_index_or bands.new l no_band) }
+{
+    for level in 0..bands.len() {
+        bands[level].update_alone(elimination);
     }
 }

@@ -79,6 +79,7 @@ fn rate_of_turn(plan: &Plan, word: u16, unit: u8) -> u64
     requires unit { unit < units plan.now }
     ensures { result ≡ turn_rate plan.now word unit }
 {
+    let _units = plan.units();
     if is_busy(word, unit) {
         u64::from(plan.split()) * u64::from(plan.unit(usize::from(unit)).rate)
     } else {

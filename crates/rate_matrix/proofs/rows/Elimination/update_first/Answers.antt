@@ -1,16 +1,8 @@
-use Rattle.std.proofs.Common.{◌≡◌, ◌+◌, ◌-◌, ◌*◌, ◌/◌, ◌<◌, ◌≤◌, ℕ, List, ◌++◌, length, take, drop, subst, sym, ap, ◌∙◌, rules, arith, length-take}
-use Rattle.std.proofs.lemmas.List.{places, take_at}
-use Rattle.std.proofs.lemmas.Nat.{div-mul-add}
-use Rattle.fixed_interval.specs.Ends.{Ends}
+use Rattle.std.proofs.Common.{◌≡◌, ◌+◌, ◌-◌, ◌*◌, ◌/◌, ◌<◌, ◌≤◌, ℕ, List, length, take, drop, subst, sym, ◌∙◌, arith}
+use Rattle.std.proofs.lemmas.List.{take_at}
 use Rattle.rate_matrix.specs.Rows.{AreAfter, CanEliminate, rows_from}
+use Rattle.rate_matrix.proofs.SlicePlaces.{length_taken, rows_taken}
 use Rattle.rate_matrix.proofs.rows.Elimination.update_first.Goals as goal
-
-length_taken : (xs : List Ends) (n : ℕ) → n ≤ length xs → length (take n xs) ≡ n
-length_taken xs n h = search (rules, places)
-
-rows_taken : (xs : List Ends) (r w : ℕ) → 0 < w → r * w ≤ length xs → length (take (r * w) xs) / w ≡ r
-rows_taken xs r w h l = let e : r * w ≡ r * w + 0 = omega arith in
-    ap (λ n. n / w) (length_taken xs (r * w) l ∙ e) ∙ div-mul-add r w 0 h
 
 pub update_chunks-requires-clause-rows : goal.update_chunks-requires-clause-rows
 update_chunks-requires-clause-rows g c _ _ =

@@ -1,0 +1,87 @@
+-- Parts of weights that enclose a solution contain what they stand for.
+use Rattle.std.proofs.Common.{◌≡◌, ℕ, ◌+◌, ◌*◌, ◌^◌, ◌<◌, ◌≤◌, List, length, map, refl, sym, ap, ap₂, subst, ◌∙◌, arith}
+use Rattle.std.specs.Prelude.{Option, Some, None, SomeIff, IsSome}
+use Rattle.std.specs.List.{flat_map, range_with_len}
+use Rattle.std.proofs.Math.Nat.{mul-le-mul_left}
+use Rattle.std.proofs.lemmas.Nat.{mul-le}
+use Rattle.std.proofs.lemmas.List.FromFn.{get_or-map-range_with_len}
+use Rattle.fixed_interval.specs.Ends.{Ends, Encloses, between, exact_ends, ratio_ends}
+use Rattle.fixed_interval.specs.WeightList.{ends_at}
+use Rattle.fixed_interval.proofs.Rounding.{div_ceil-le, encloses_ratio}
+use Rattle.hyper_model.specs.declared.kinds.Line.{Line}
+use Rattle.hyper_model.specs.declared.kinds.Line.TheVariants as line
+use Rattle.hyper_model.specs.declared.parts.PlanParts.{PlanParts}
+use Rattle.hyper_model.specs.Plans.{units, atoms, service_of, all_service, split, IsAccepted}
+use Rattle.hyper_model.specs.Solutions.{mass_in}
+use Rattle.hyper_model.specs.Measures.{queued_on, queued, base_on, base, taken_mass}
+use Rattle.hyper_model.proofs.Sums.{place_le_sum}
+use Rattle.hyper_model.proofs.Masses.{service_total_positive}
+use Rattle.busy_words.specs.Order.{WordOrder}
+use Rattle.busy_words.specs.WeightParts.{IsOrderOf, EnclosesSolution, full_part, taken_part}
+use Rattle.busy_words.proofs.WeightParts.{full_part_encloses, taken_part_encloses}
+use Rattle.dispatch_fractions.specs.PartLists.{PartList, taken_by, help_of, waiting_on, help_from, taken_row, AreSizedFor, ArePartsOf, HasParts}
+use Rattle.dispatch_fractions.proofs.Ranges.{table_read}
+
+-- one unit's service is at most all service, so that its part of a part is one
+pub service_part : (p : PlanParts) (n : ℕ) → n < units p → service_of p n ≤ all_service p
+service_part p n l = place_le_sum (units p) (service_of p) n l
+
+pub some_if : {T : Type 0} (o : Option T) (P : Type 0) (v : T) → P → SomeIff o P v → IsSome o
+some_if None P v holds h = absurd (h holds)
+some_if (Some w) P v holds h = refl
+
+pub part_of_part : (w r : Ends) (a b : ℕ) → 1 ≤ b → a ≤ b → w.hi ≤ 2 ^ 62 → r ≡ ratio_ends w a b → r.hi ≤ 2 ^ 62
+part_of_part w r a b some part in_range is =
+    rw is (div_ceil-le (w.hi * a) b (2 ^ 62) (omega arith) (mul-le w.hi a (2 ^ 62) b in_range part))
+
+-- the parts that are pushed unit by unit are those of the weights
+pub made_parts : (p : PlanParts) (order : WordOrder) (w : ℕ → Ends) (parts : PartList)
+    → AreSizedFor p parts → parts.full ≡ full_part p w
+    → parts.taken ≡ flat_map (taken_row p order w) (range_with_len 0 (units p))
+    → parts.help ≡ map (help_from p (full_part p w)) (range_with_len 0 (units p))
+    → ArePartsOf p order w parts
+made_parts p order w parts sized full taken help = record {
+  sized = sized;
+  full = full;
+  taken = λ n j l k.
+      ap₂ (λ xs cols. ends_at xs (n * cols + j)) taken sized.same_atoms
+      ∙ table_read (taken_part p order w) (atoms p) (units p) n j (between 0 0) l k;
+  help = λ n l.
+      ap (λ xs. ends_at xs n) help
+      ∙ get_or-map-range_with_len (help_from p (full_part p w)) 0 (units p) n n (between 0 0) l (omega arith);
+}
+
+module _ (p : PlanParts) (a : IsAccepted p) (order : WordOrder) (o : IsOrderOf p order) (items : List Ends)
+    (xs : List ℕ) (z : ℕ) (e : EnclosesSolution p order items xs z) where
+  waiting_holds : Encloses (waiting_on p.line (full_part p (ends_at items))) (2 ^ 62 * queued p (mass_in xs) z)
+      (base p (mass_in xs) z)
+  waiting_holds = on_line p.line
+    where
+      on_line : (l : Line)
+          → Encloses (waiting_on l (full_part p (ends_at items))) (2 ^ 62 * queued_on l p (mass_in xs) z)
+          (base_on l p (mass_in xs) z)
+      on_line line.Zero = record { low = omega arith; high = omega arith }
+      on_line line.Infinite = full_part_encloses p order o items xs z e
+
+  help_holds : (n : ℕ)
+      → Encloses (help_from p (full_part p (ends_at items)) n) (2 ^ 62 * queued p (mass_in xs) z * service_of p n)
+      (all_service p * base p (mass_in xs) z)
+  help_holds n =
+      encloses_ratio (waiting_on p.line (full_part p (ends_at items))) (help_from p (full_part p (ends_at items)) n)
+      (service_of p n) (all_service p) (service_total_positive p a) refl (2 ^ 62 * queued p (mass_in xs) z)
+      (base p (mass_in xs) z) waiting_holds
+
+  pub has_parts : (parts : PartList) → ArePartsOf p order (ends_at items) parts → HasParts p xs z parts
+  has_parts parts is = record {
+    accepted = a;
+    solves = e.solves;
+    taken = λ n j l k.
+        subst (λ r. Encloses r (2 ^ 62 * taken_mass p (mass_in xs) n j) (split p * base p (mass_in xs) z))
+        (sym (is.taken n j l k)) (taken_part_encloses p order o items xs z e a n j l);
+    waiting =
+        subst (λ r. Encloses (waiting_on p.line r) (2 ^ 62 * queued p (mass_in xs) z) (base p (mass_in xs) z))
+        (sym is.full) waiting_holds;
+    help = λ n l.
+        subst (λ r. Encloses r (2 ^ 62 * queued p (mass_in xs) z * service_of p n)
+        (all_service p * base p (mass_in xs) z)) (sym (is.help n l)) (help_holds n);
+  }

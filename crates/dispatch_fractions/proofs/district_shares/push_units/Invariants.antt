@@ -1,0 +1,11 @@
+use Rattle.std.proofs.Common.{◌≡◌, ◌++◌, map, All}
+use Rattle.std.specs.List.{range_with_len}
+use Rattle.hyper_model.specs.Enclosures.{IsOrderedEnclosed}
+use Rattle.dispatch_fractions.specs.Fractions.{unit_share}
+use Rattle.dispatch_fractions.proofs.district_shares.push_units.Given as goal
+
+abbrev pub invariant-loop-unit : goal.invariant-loop-unit
+invariant-loop-unit l = record {
+  exact : l.found.items ≡ l.initial.found.items ++ map (unit_share l.plan l.parts) (range_with_len 0 l.unit);
+  ordered : All IsOrderedEnclosed l.found.items;
+}

@@ -1,0 +1,125 @@
+ghost use Rattle.std.specs.Prelude.{◌≡◌, ◌++◌, ◌*◌, ◌^◌, ◌<◌, ◌≤◌, All, IfOk, map};
+ghost use Rattle.std.specs.List.{range_with_len};
+ghost use Rattle.hyper_model.specs.Plans.{units};
+ghost use Rattle.hyper_model.specs.Enclosures.{IsOrderedEnclosed, IsOrderedFound};
+ghost use Rattle.dispatch_fractions.specs.PartLists.{AreSizedFor};
+ghost use Rattle.dispatch_fractions.specs.Fractions.{AreContained, IsOfPlan, HasEndsOnly, district_share, interdistrict_of, region_share, share_found, unit_share};
+
+use crate::Parts;
+use crate::districts::calls_inside;
+use crate::flows::{found_of, sent_by_others, sent_in_region, sent_to_side};
+use fixed_interval::Wide;
+use hyper_model::{Enclosed, Found, Measure, Plan};
+use std::alloc::{AllocError, Global};
+
+/// The shares of dispatches that lead from one district into another, in millionths: of all dispatches, of those
+/// of each unit, and of those to each unit's district.
+///
+/// The share of a district that no call comes from is `Without`.
+pub fn interdistrict(alloc: Global, plan: &Plan, parts: &Parts) -> Result<Vec<Enclosed>, AllocError>
+    requires { AreSizedFor plan.now parts.now }
+    ensures exact { IfOk result (λ found. found.items ≡ interdistrict_of plan.now parts.now) }
+    ensures contains { IfOk result (λ found. AreContained plan.now parts.now found.items) }
+    ensures without { IfOk result (λ found. All (HasEndsOnly plan.now) found.items) }
+    ensures ordered { IfOk result (λ found. All IsOrderedEnclosed found.items) }
+    ensures in_range { IfOk result (λ found. All (IsOfPlan plan.now) found.items) }
+{
+    let mut found = Vec::new(alloc);
+    found.push(region(plan, parts))?;
+    push_units(&mut found, plan, parts)?;
+    push_districts(&mut found, plan, parts)?;
+    Ok(found)
+}
+
+fn push_units(found: &mut Vec<Enclosed>, plan: &Plan, parts: &Parts) -> Result<(), AllocError>
+    requires sized { AreSizedFor plan.now parts.now }
+    requires ordered { All IsOrderedEnclosed found.old.items }
+    ensures exact { IfOk result (λ _. found.new.items
+        ≡ found.old.items ++ map (unit_share plan.now parts.now) (range_with_len 0 (units plan.now))) }
+    ensures ordered { IfOk result (λ _. All IsOrderedEnclosed found.new.items) }
+{
+    for unit in 0..plan.units() {
+        found.push(of_unit(plan, parts, unit as u8))?;
+    }
+    Ok(())
+}
+
+fn push_districts(found: &mut Vec<Enclosed>, plan: &Plan, parts: &Parts) -> Result<(), AllocError>
+    requires sized { AreSizedFor plan.now parts.now }
+    requires ordered { All IsOrderedEnclosed found.old.items }
+    ensures exact { IfOk result (λ _. found.new.items
+        ≡ found.old.items ++ map (district_share plan.now parts.now) (range_with_len 0 (units plan.now))) }
+    ensures ordered { IfOk result (λ _. All IsOrderedEnclosed found.new.items) }
+{
+    for unit in 0..plan.units() {
+        found.push(of_district(plan, parts, unit as u8))?;
+    }
+    Ok(())
+}
+
+fn region(plan: &Plan, parts: &Parts) -> Enclosed
+    requires { AreSizedFor plan.now parts.now }
+    ensures exact { result ≡ region_share plan.now parts.now }
+    ensures ordered { IsOrderedEnclosed result }
+{
+    Enclosed {
+        measure: Measure::Interdistrict,
+        found: share(
+            sent_in_region(plan, parts, false),
+            sent_in_region(plan, parts, true),
+        ),
+    }
+}
+
+fn of_unit(plan: &Plan, parts: &Parts, unit: u8) -> Enclosed
+    requires sized { AreSizedFor plan.now parts.now }
+    requires unit { unit < units plan.now }
+    ensures exact { result ≡ unit_share plan.now parts.now unit }
+    ensures ordered { IsOrderedEnclosed result }
+{
+    let own = usize::from(unit);
+    Enclosed {
+        measure: Measure::InterdistrictUnit(unit),
+        found: share(
+            sent_to_side(plan, parts, false, own, own),
+            sent_to_side(plan, parts, true, own, own),
+        ),
+    }
+}
+
+fn of_district(plan: &Plan, parts: &Parts, unit: u8) -> Enclosed
+    requires sized { AreSizedFor plan.now parts.now }
+    requires unit { unit < units plan.now }
+    ensures exact { result ≡ district_share plan.now parts.now unit }
+    ensures ordered { IsOrderedEnclosed result }
+{
+    Enclosed {
+        measure: Measure::InterdistrictDistrict(unit),
+        found: found_of_district(plan, parts, usize::from(unit)),
+    }
+}
+
+fn found_of_district(plan: &Plan, parts: &Parts, unit: usize) -> Found
+    requires sized { AreSizedFor plan.now parts.now }
+    requires unit { unit < units plan.now }
+    ensures exact { result ≡ (district_share plan.now parts.now unit).found }
+    ensures ordered { IsOrderedFound result }
+{
+    if calls_inside(plan, unit) == 0 {
+        return Found::Without;
+    }
+    share(
+        sent_by_others(plan, parts, unit),
+        sent_to_side(plan, parts, true, unit, unit),
+    )
+}
+
+// The share of one flow in two, in millionths.
+fn share(flow: Wide, rest: Wide) -> Found
+    requires few { flow.hi ≤ 12 * (200 * (1000000 * 2 ^ 63)) }
+    requires rest_few { rest.hi ≤ 12 * (200 * (1000000 * 2 ^ 63)) }
+    ensures exact { result ≡ share_found flow rest }
+    ensures ordered { IsOrderedFound result }
+{
+    found_of(flow.share_of(rest, 1_000_000))
+}

@@ -1,0 +1,18 @@
+-- The tail: one more weight, for all states in which a call waits.
+use Rattle.std.specs.Prelude.{◌≡◌, ℕ, ◌-◌, ◌*◌, List, length}
+use Rattle.fixed_interval.specs.Ends.{Ends, ratio_ends}
+use Rattle.fixed_interval.specs.WeightList.{PushesShifted, ends_at}
+use Rattle.hyper_model.specs.Solutions.{mass_in}
+
+-- calls wait with calls / (service - calls) times the mass of the word in which all units are busy
+abbrev pub tail_weight : ℕ → ℕ → Ends → Ends
+tail_weight calls service full = ratio_ends full calls (service - calls)
+
+-- the tail's weight goes behind that of this word, which is the last, with the same shift for all
+abbrev pub GainsTail : ℕ → ℕ → List Ends → List Ends → Type 0
+GainsTail calls service old new = PushesShifted old new (tail_weight calls service (ends_at old (length old - 1)))
+
+-- z is the mass of all states in which a call waits, where the last of the masses is that of the word in which
+-- all units are busy
+abbrev pub IsTailOf : ℕ → ℕ → List ℕ → ℕ → Type 0
+IsTailOf calls service masses z = (service - calls) * z ≡ calls * mass_in masses (length masses - 1)

@@ -1,0 +1,7 @@
+use Rattle.rate_matrix.proofs.WordChains.{chain_balance, ordered_words}
+use Rattle.rate_matrix.proofs.words.WordChain.of.Goals as goal
+
+pub returns-clause-balance : goal.returns-clause-balance
+returns-clause-balance c =
+    chain_balance c.args.plan.now c.args.order.now c.calls-calls.ensures.accepted
+    (ordered_words c.args.plan.now c.args.order.now c.requires c.units-units.ensures.ordered)

@@ -1,0 +1,63 @@
+ghost use Rattle.std.specs.Prelude.{◌≡◌, ◌<◌, All, IfOk};
+ghost use Rattle.hyper_model.specs.Plans.{IsAccepted, all_calls, units};
+ghost use Rattle.hyper_model.specs.Enclosures.{IsOrderedEnclosed, IsOrderedFound};
+ghost use Rattle.dispatch_fractions.specs.PartLists.{AreSizedFor};
+ghost use Rattle.dispatch_fractions.specs.Fractions.{AreContained, HasEndsOnly, IsOfPlan};
+ghost use Rattle.travel_measures.specs.TravelEnds.{district_time, district_times_of};
+
+use crate::means::mean_time;
+use dispatch_fractions::{Parts, calls_inside};
+use hyper_model::{Enclosed, Found, Measure, Plan};
+use std::alloc::{AllocError, Global};
+
+/// The mean travel time to a call of each unit's district, in thousandths of a second, whichever unit answers it.
+///
+/// That of a district that no call comes from is `Without`.
+pub fn district_times(
+    alloc: Global,
+    plan: &Plan,
+    parts: &Parts,
+) -> Result<Vec<Enclosed>, AllocError>
+    requires { AreSizedFor plan.now parts.now }
+    ensures exact { IfOk result (λ found. found.items ≡ district_times_of plan.now parts.now) }
+    ensures contains { IfOk result (λ found. AreContained plan.now parts.now found.items) }
+    ensures without { IfOk result (λ found. All (HasEndsOnly plan.now) found.items) }
+    ensures ordered { IfOk result (λ found. All IsOrderedEnclosed found.items) }
+    ensures in_range { IfOk result (λ found. All (IsOfPlan plan.now) found.items) }
+{
+    let calls = plan.calls();
+    let mut found = Vec::new(alloc);
+    for unit in 0..plan.units() {
+        found.push(of_district(plan, parts, calls, unit as u8))?;
+    }
+    Ok(found)
+}
+
+fn of_district(plan: &Plan, parts: &Parts, all: u32, unit: u8) -> Enclosed
+    requires accepted { IsAccepted plan.now }
+    requires sized { AreSizedFor plan.now parts.now }
+    requires all { all ≡ all_calls plan.now }
+    requires unit { unit < units plan.now }
+    ensures exact { result ≡ district_time plan.now parts.now unit }
+    ensures ordered { IsOrderedEnclosed result }
+{
+    Enclosed {
+        measure: Measure::TravelDistrict(unit),
+        found: time_in(plan, parts, all, usize::from(unit)),
+    }
+}
+
+fn time_in(plan: &Plan, parts: &Parts, all: u32, unit: usize) -> Found
+    requires accepted { IsAccepted plan.now }
+    requires sized { AreSizedFor plan.now parts.now }
+    requires all { all ≡ all_calls plan.now }
+    requires unit { unit < units plan.now }
+    ensures exact { result ≡ (district_time plan.now parts.now unit).found }
+    ensures ordered { IsOrderedFound result }
+{
+    let calls = calls_inside(plan, unit);
+    if calls == 0 {
+        return Found::Without;
+    }
+    mean_time(plan, parts, all, Some(unit), calls)
+}

@@ -1,0 +1,48 @@
+ghost use Rattle.std.specs.Prelude.{◌≡◌, ◌*◌, ◌^◌, ◌≤◌, None};
+ghost use Rattle.hyper_model.specs.Plans.{IsAccepted, all_calls};
+ghost use Rattle.hyper_model.specs.Enclosures.{IsOrderedEnclosed, IsOrderedFound};
+ghost use Rattle.dispatch_fractions.specs.PartLists.{AreSizedFor};
+ghost use Rattle.dispatch_fractions.specs.Fractions.{IsAlwaysContained, ends_found};
+ghost use Rattle.travel_measures.specs.TravelEnds.{mean_ends, region_time_of};
+
+use crate::table_sums::{late, longest_mean};
+use crate::trips::{all_trips, product};
+use dispatch_fractions::{Parts, found_of};
+use fixed_interval::Wide;
+use hyper_model::{Enclosed, Found, Measure, Plan};
+
+/// The mean travel time to a call of the region, in thousandths of a second.
+pub fn region_time(plan: &Plan, parts: &Parts) -> Enclosed
+    requires { AreSizedFor plan.now parts.now }
+    ensures exact { result ≡ region_time_of plan.now parts.now }
+    ensures contains { IsAlwaysContained plan.now parts.now result }
+    ensures ordered { IsOrderedEnclosed result }
+{
+    let calls = plan.calls();
+    Enclosed {
+        measure: Measure::Travel,
+        found: mean_time(plan, parts, calls, None, u64::from(calls)),
+    }
+}
+
+/// The mean travel time to a call of a district, or of the region, from which so many of all calls come.
+pub(crate) fn mean_time(
+    plan: &Plan,
+    parts: &Parts,
+    all: u32,
+    district: Option<usize>,
+    calls: u64,
+) -> Found
+    requires accepted { IsAccepted plan.now }
+    requires sized { AreSizedFor plan.now parts.now }
+    requires all { all ≡ all_calls plan.now }
+    requires few { calls ≤ 200000000 }
+    ensures exact { result ≡ ends_found (mean_ends plan.now parts.now district calls) }
+    ensures ordered { IsOrderedFound result }
+{
+    let at_once = all_trips(plan, parts, district).scaled(4096);
+    let waited = product(parts.waiting(plan), late(plan, district, all));
+    let whole = 4096 * u128::from(calls) * (1 << 62);
+    let longest = u128::from(longest_mean(plan));
+    found_of(at_once.plus(waited).over(Wide::new(whole, whole), longest))
+}

@@ -1,0 +1,130 @@
+-- The ends of each measure contain it, for every solution of the plan whose masses the weights enclose.
+use Rattle.std.proofs.Common.{◌≡◌, ℕ, zero, suc, ◌+◌, ◌-◌, ◌*◌, ◌^◌, ◌<◌, ◌≤◌, All, List, [], ◌∷◌, map, refl, sym, ap, subst, length, arith}
+use Rattle.std.specs.List.{range_with_len}
+use Rattle.std.proofs.lemmas.List.FromFn.{length-map-range_with_len, get_or-map-range_with_len}
+use Rattle.std.proofs.Math.Nat.{mul-pos}
+use Rattle.fixed_interval.specs.Ends.{Ends, Encloses, outward_ends, ratio_ends}
+use Rattle.fixed_interval.specs.WeightList.{ends_at}
+use Rattle.fixed_interval.proofs.Rounding.{encloses_same, encloses_outward, encloses_ratio}
+use Rattle.hyper_model.specs.declared.kinds.Line.{Line}
+use Rattle.hyper_model.specs.declared.kinds.Line.TheVariants as line
+use Rattle.hyper_model.specs.declared.kinds.Measure.TheVariants as measure
+use Rattle.hyper_model.specs.declared.kinds.Found.TheVariants as found
+use Rattle.hyper_model.specs.declared.parts.PlanParts.{PlanParts}
+use Rattle.hyper_model.specs.Plans.{units, all_calls, all_service, IsAccepted}
+use Rattle.hyper_model.specs.Words.{full_word}
+use Rattle.hyper_model.specs.Solutions.{mass_in, IsTail}
+use Rattle.hyper_model.specs.Measures.{Ratio, mass, loss_on, delay_on, queue_on, wait_on, ContainsRatio, IsInRange, IsFoundOf, IsContained}
+use Rattle.hyper_model.proofs.PlanLaws.{stable_of}
+use Rattle.busy_words.specs.Order.{WordOrder}
+use Rattle.busy_words.specs.WeightParts.{IsOrderOf, EnclosesSolution, busy_mass, busy_part, full_part, tail_part}
+use Rattle.busy_words.proofs.WeightParts.{busy_part_encloses, full_part_encloses, tail_part_encloses}
+use Rattle.workload_measures.specs.LoadEnds.{enclosed, loss_or_delay_on, loss_ends, queue_ends, wait_ends, workload_ends, workload_of, workloads_of}
+use Rattle.workload_measures.specs.Containing.{ContainsEach}
+
+-- a measure's ends contain it where they enclose it at its scale
+contains_ratio : (i : Ends) (scale : ℕ) (r : Ratio) → Encloses i (scale * r.numerator) r.denominator
+    → ContainsRatio i.lo i.hi scale r
+contains_ratio i scale r e = record { least = e.low; most = e.high }
+
+without_tail : (i : Ends) (k x z d : ℕ) → z ≡ 0 → Encloses i (k * (x + z)) d → Encloses i (k * x) d
+without_tail i k x z d none e = record {
+  low = omega (arith, e.low, ap (λ n. k * n) none);
+  high = omega (arith, e.high, ap (λ n. k * n) none);
+}
+
+-- a part of 2 ^ 62, times num / den
+multiple_of_part : (q : Ends) (num den z m a b : ℕ) → 0 < den → a ≡ z * num → b ≡ den * m → Encloses q (2 ^ 62 * z) m
+    → Encloses (ratio_ends q num (2 ^ 62 * den)) a b
+multiple_of_part q num den z m a b some is_a is_b e =
+    encloses_same (ratio_ends q num (2 ^ 62 * den)) (2 ^ 62) a b (2 ^ 62 * z * num) (2 ^ 62 * den * m) (omega arith)
+    (omega arith) (omega arith)
+    (encloses_ratio q (ratio_ends q num (2 ^ 62 * den)) num (2 ^ 62 * den) (omega arith) refl (2 ^ 62 * z) m e)
+
+-- the queue of z over m, and the wait in it, where the calls leave spare service
+queue_of_part : (q : Ends) (service spare z m : ℕ) → 0 < spare → Encloses q (2 ^ 62 * z) m
+    → Encloses (ratio_ends q (1000000 * service) (2 ^ 62 * spare)) (1000000 * (z * service)) (m * spare)
+queue_of_part q service spare z m some e =
+    multiple_of_part q (1000000 * service) spare z m (1000000 * (z * service)) (m * spare) some (omega arith) (omega arith) e
+
+wait_of_part : (q : Ends) (period service spare calls z m : ℕ) → 0 < spare → 0 < calls → Encloses q (2 ^ 62 * z) m
+    → Encloses (ratio_ends q (1000 * period * service) (2 ^ 62 * (spare * calls))) (1000 * (period * z * service))
+    (m * spare * calls)
+wait_of_part q period service spare calls z m some some_calls e =
+    multiple_of_part q (1000 * period * service) (spare * calls) z m (1000 * (period * z * service)) (m * spare * calls)
+    (mul-pos some some_calls) (omega arith) (omega arith) e
+
+module _ (p : PlanParts) (order : WordOrder) (o : IsOrderOf p order) (items : List Ends) (xs : List ℕ) (z : ℕ)
+    (e : EnclosesSolution p order items xs z) where
+  loss_enclosed : Encloses (loss_ends p items) (1000000 * (mass_in xs (full_word p) + z)) (mass p (mass_in xs) z)
+  loss_enclosed =
+      encloses_outward (full_part p (ends_at items)) (loss_ends p items) 1000000 refl (mass_in xs (full_word p) + z)
+      (mass p (mass_in xs) z) (full_part_encloses p order o items xs z e)
+
+  loss_found : (l : Line) → p.line ≡ l
+      → IsFoundOf p (mass_in xs) z (loss_or_delay_on l) (found.Ends (loss_ends p items).lo (loss_ends p items).hi)
+  loss_found line.Zero is = (
+    refl,
+    subst (λ l. ContainsRatio (loss_ends p items).lo (loss_ends p items).hi 1000000 (loss_on l p (mass_in xs) z)) (sym is)
+        (contains_ratio (loss_ends p items) 1000000 (loss_on line.Zero p (mass_in xs) z)
+        (without_tail (loss_ends p items) 1000000 (mass_in xs (full_word p)) z (mass p (mass_in xs) z)
+        (subst (λ l. IsTail l p xs z) is e.solves.tail) loss_enclosed)),
+  )
+  loss_found line.Infinite is = (
+    refl,
+    subst (λ l. ContainsRatio (loss_ends p items).lo (loss_ends p items).hi 1000000 (delay_on l p (mass_in xs) z)) (sym is)
+        (contains_ratio (loss_ends p items) 1000000 (delay_on line.Infinite p (mass_in xs) z) loss_enclosed),
+  )
+
+  pub loss_or_delay_contained : IsContained p (mass_in xs) z (enclosed (loss_or_delay_on p.line) (loss_ends p items))
+  loss_or_delay_contained = loss_found p.line refl
+
+  pub queue_contained : IsAccepted p → p.line ≡ line.Infinite
+      → IsContained p (mass_in xs) z (enclosed measure.Queue (queue_ends p items))
+  queue_contained a is =
+      let stable = stable_of p a is in (
+        refl,
+        subst (λ l. ContainsRatio (queue_ends p items).lo (queue_ends p items).hi 1000000 (queue_on l p (mass_in xs) z))
+            (sym is)
+            (contains_ratio (queue_ends p items) 1000000 (queue_on line.Infinite p (mass_in xs) z)
+            (queue_of_part (tail_part p (ends_at items)) (all_service p) (all_service p - all_calls p) z
+            (mass p (mass_in xs) z) (omega arith) (tail_part_encloses p order o items xs z e))),
+      )
+
+  pub wait_contained : IsAccepted p → p.line ≡ line.Infinite
+      → IsContained p (mass_in xs) z (enclosed measure.Wait (wait_ends p items))
+  wait_contained a is =
+      let stable = stable_of p a is in (
+        refl,
+        subst (λ l. ContainsRatio (wait_ends p items).lo (wait_ends p items).hi 1000 (wait_on l p (mass_in xs) z)) (sym is)
+            (contains_ratio (wait_ends p items) 1000 (wait_on line.Infinite p (mass_in xs) z)
+            (wait_of_part (tail_part p (ends_at items)) p.period (all_service p) (all_service p - all_calls p) (all_calls p) z
+            (mass p (mass_in xs) z) (omega arith) a.atoms.calls.low (tail_part_encloses p order o items xs z e))),
+      )
+
+  pub workload_contained : (n : ℕ) → n < units p → IsContained p (mass_in xs) z (workload_of p order items n)
+  workload_contained n l = (
+    refl,
+    contains_ratio (workload_ends p order items n) 1000000
+        (record { numerator = busy_mass p (mass_in xs) z n; denominator = mass p (mass_in xs) z })
+        (encloses_outward (busy_part p order (ends_at items) n) (workload_ends p order items n) 1000000 refl
+        (busy_mass p (mass_in xs) z n) (mass p (mass_in xs) z) (busy_part_encloses p order o items xs z e n l)),
+  )
+
+-- what holds of each item of a list over a range holds of all
+each_of_range : {X : Type 0} (P : X → Type 0) (f : ℕ → X) (n : ℕ) → ((k : ℕ) → k < n → P (f k))
+    → All P (map f (range_with_len 0 n))
+each_of_range P f n h k d l =
+    let inside : k < n = subst (λ m. k < m) (length-map-range_with_len f 0 n) l in
+    subst P (sym (get_or-map-range_with_len f 0 n k k d inside (omega arith))) (h k inside)
+
+pub workloads_contained : (p : PlanParts) (order : WordOrder) → IsOrderOf p order → (items : List Ends)
+    → All (ContainsEach p order items) (workloads_of p order items)
+workloads_contained p order o items =
+    each_of_range (ContainsEach p order items) (workload_of p order items) (units p)
+    (λ n l xs z e. workload_contained p order o items xs z e n l)
+
+pub workloads_in_range : (p : PlanParts) (order : WordOrder) (items : List Ends)
+    → All (λ e. IsInRange p e.measure) (workloads_of p order items)
+workloads_in_range p order items =
+    each_of_range (λ e. IsInRange p e.measure) (workload_of p order items) (units p) (λ n l. l)
