@@ -1,12 +1,10 @@
 -- Matrices with one frame: their caps and the places that they keep, and what a state that retires leaves.
-use Rattle.std.proofs.Common.{◌≡◌, ◌≢◌, ℕ, ◌-◌, ◌*◌, ◌<◌, ◌≤◌, List, slice_index, refl, sym, ap, subst, ◌∙◌, arith}
-use Rattle.std.proofs.lemmas.Bool.{true≢false}
+use Rattle.std.proofs.Common.{◌≡◌, ℕ, ◌-◌, ◌*◌, ◌<◌, List, slice_index, refl, sym, ap, subst, ◌∙◌}
 use Rattle.fixed_interval.specs.Ends.{Ends, exact_ends}
-use Rattle.hyper_model.proofs.Sums.{on_test}
-use Rattle.rate_matrix.specs.Bands.{BandedRates, HasColumn, HasSameFrame, IsBanded, IsKept, band_at, band_of, cap, entry, has_column}
+use Rattle.rate_matrix.specs.Bands.{BandedRates, HasColumn, HasSameFrame, IsKept, band_at, band_of, cap, entry}
 use Rattle.rate_matrix.specs.Elimination.{part_to}
 use Rattle.rate_matrix.specs.Rows.{part_in}
-use Rattle.rate_matrix.proofs.BandLemmas.{band_entry_none, band_entry_zero, entry_is, has_column_of, has_column_true, same_shape, shape_column}
+use Rattle.rate_matrix.proofs.BandLemmas.{band_entry_zero, entry_is, same_shape, shape_column}
 use Rattle.state_reduction.proofs.FarZeros.{part_to-nothing}
 
 pub frame-none : (m : BandedRates) → HasSameFrame m m
@@ -77,18 +75,3 @@ pub no_part_outside : (m : BandedRates) (parts : List Ends) (t : ℕ)
     → (j : ℕ) → j < t → ¬ IsKept m t j → part_in parts j ≡ exact_ends 0
 no_part_outside m parts t are j before outside =
     are j before ∙ part_to-nothing (entry m) t j (entry_is m t j ∙ band_entry_zero (band_of m t) t j outside)
-
--- where an entry leads to state t, and a part of what leaves t to state j, the way between them has its place
-pub kept_between : (m : BandedRates) (parts : List Ends) (t i j : ℕ) → IsBanded m → i ≤ t → t < m.size → j < t
-    → ((k : ℕ) → k < t → ¬ IsKept m t k → part_in parts k ≡ exact_ends 0)
-    → (entry m i t).hi ≢ 0 → (part_in parts j).hi ≢ 0 → IsKept m i j
-kept_between m parts t i j banded later inside before outside into part =
-    on_test (has_column (band_of m i) t)
-    (λ row. on_test (has_column (band_of m t) j)
-    (λ column.
-    let from = has_column_of (band_of m i) t row in
-    let to = has_column_of (band_of m t) j column in
-    let falls = banded.falls i t later inside in
-    record { from = omega (arith, falls, to.from); to = omega (arith, from.to, before) })
-    (λ none. absurd (part (ap (λ (e : Ends). e.hi) (outside j before (λ kept. true≢false (sym (has_column_true (band_of m t) j kept) ∙ none)))))))
-    (λ none. absurd (into (ap (λ (e : Ends). e.hi) (entry_is m i t ∙ band_entry_none (band_of m i) i t none))))

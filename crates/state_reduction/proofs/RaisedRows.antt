@@ -1,15 +1,13 @@
 -- The rows of a matrix while one state is eliminated, entry by entry and row by row.
-use Rattle.std.proofs.Common.{◌≡◌, ◌≢◌, ℕ, ◌+◌, ◌<◌, ◌≤◌, Bool, true, cond, eqb, List, refl, sym, ap, subst, ◌∙◌, inl, inr, arith}
-use Rattle.std.specs.Prelude.{if◌then◌else◌}
-use Rattle.std.proofs.lemmas.Bool.{cases_eq, cases_lt, ne_eqb}
-use Rattle.std.proofs.lemmas.Bool.Decides.{nat_tests}
-use Rattle.fixed_interval.specs.Ends.{Ends, exact_ends, times_part_ends}
-use Rattle.rate_matrix.specs.Bands.{BandedRates, HasSameFrame, IsSound, cap, entry}
+use Rattle.std.proofs.Common.{◌≡◌, ◌≢◌, ℕ, ◌+◌, ◌<◌, ◌≤◌, Bool, List, refl, sym, ap, subst, ◌∙◌, inl, inr, arith}
+use Rattle.std.specs.Prelude.{◌==◌, if◌then◌else◌}
+use Rattle.std.proofs.lemmas.Bool.{cases_eq, cases_lt}
+use Rattle.fixed_interval.specs.Ends.{Ends, plus_capped_ends, times_part_ends}
+use Rattle.rate_matrix.specs.Bands.{BandedRates, HasSameFrame, cap, entry}
 use Rattle.rate_matrix.specs.Elimination.{Entries, is_raised, raised, raised_by}
 use Rattle.rate_matrix.specs.Rows.{part_in}
 use Rattle.rate_matrix.proofs.Raising.{is_raised-from, is_raised-to, raised_by-stays}
-use Rattle.rate_matrix.proofs.RowUpdates.{no_part, nothing_to_give, raised-nothing, updated, updated_is}
-use Rattle.rate_matrix.proofs.BandUpdates.{raised_by-nothing}
+use Rattle.rate_matrix.proofs.RowUpdates.{updated, updated_is}
 use Rattle.state_reduction.proofs.Frames.{cap-same, frame-more, frame-none}
 
 raised_if-alike : (b : Bool) (old into part old' into' part' : Ends) (limit limit' : ℕ) → old ≡ old' → into ≡ into'
@@ -37,20 +35,10 @@ raised_by-same parts shares a b caps limits t i j part old into limit = elim (ca
       ∙ sym (raised_by-stays shares b limits t i j (is_raised-to t i j (omega arith)))
 ]
 
--- an entry to itself, and one to which nothing is added
-pub updated-itself : (i j : ℕ) (old into part : Ends) (limit : ℕ) → i ≡ j → old ≡ updated i j old into part limit
-updated-itself i j old into part limit same =
-    let test : eqb i j ≡ true = grind (arith, nat_tests) in
-    sym (ap (λ b. cond b old (raised old into part limit)) test)
-
-pub updated-nothing : (i j : ℕ) (old into part : Ends) (limit : ℕ) → (i ≢ j → old.lo ≤ old.hi) → (i ≢ j → old.hi ≤ limit)
-    → part.lo ≤ part.hi → part.hi ≡ 0 → old ≡ updated i j old into part limit
-updated-nothing i j old into part limit ordered capped order none = elim (cases_eq i j) [
-  | inl same ↦ updated-itself i j old into part limit same
-  | inr ne ↦
-      sym (ap (λ b. cond b old (raised old into part limit)) (ne_eqb i j ne)
-      ∙ raised-nothing old into part limit (ordered ne) (capped ne) (no_part into part order none))
-]
+-- the same with what is added to the entry
+pub entry-more : (i j : ℕ) (old into part more : Ends) (limit : ℕ) → more ≡ times_part_ends into part
+    → (if i == j then old else plus_capped_ends old more limit) ≡ updated i j old into part limit
+entry-more i j old into part more limit is = ap (λ e. if i == j then old else plus_capped_ends old e limit) is
 
 -- the entries of `first` with what goes through its next state in these parts
 abbrev pub passed_on : List Ends → BandedRates → Entries
@@ -131,21 +119,6 @@ row-all parts first m i row = record {
         (is_raised-to first.alive i j (omega arith)))
   ];
   others = row.others;
-}
-
--- a row from which nothing leads to the state that goes
-pub row-stays : (parts : List Ends) (m : BandedRates) (i : ℕ) (into : Ends) → IsSound m → m.alive < m.size → i < m.size
-    → into ≡ entry m i m.alive → into.lo ≤ into.hi → into.hi ≡ 0 → ChangesRow parts m m i
-row-stays parts m i into sound gone inside is ordered none = record {
-  frame = frame-none m;
-  alive = refl;
-  entries = λ j l.
-      sym (raised_by-nothing (part_in parts) (entry m) (cap m) m.alive i j
-      (λ ne. sound.within.ordered i j inside l ne) (λ ne. sound.within.capped i j inside l ne)
-      (λ before after.
-      subst (λ e. times_part_ends e (part_in parts j) ≡ exact_ends 0) is
-      (nothing_to_give into (part_in parts j) ordered none)));
-  others = λ p q l k ne. refl;
 }
 
 -- the first i rows are raised

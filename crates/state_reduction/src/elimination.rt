@@ -1,7 +1,7 @@
-ghost use Rattle.std.specs.Prelude.{◌≡◌, ◌≢◌, ℕ, ◌+◌, ◌-◌, ◌<◌, ◌≤◌, ◌==◌, false, true, length, if◌then◌else◌};
-ghost use Rattle.fixed_interval.specs.Ends.{exact_ends};
-ghost use Rattle.rate_matrix.specs.Bands.{HasSameFrame, IsKept, cap, entry};
-ghost use Rattle.rate_matrix.specs.Elimination.{eliminated, raised, raised_by};
+ghost use Rattle.std.specs.Prelude.{◌≡◌, ◌≢◌, ℕ, ◌+◌, ◌^◌, ◌<◌, ◌≤◌, ◌==◌, false, true, length, if◌then◌else◌};
+ghost use Rattle.fixed_interval.specs.Ends.{plus_capped_ends};
+ghost use Rattle.rate_matrix.specs.Bands.{HasSameFrame, cap, entry};
+ghost use Rattle.rate_matrix.specs.Elimination.{eliminated, raised_by};
 ghost use Rattle.rate_matrix.specs.Rows.{part_in};
 
 use crate::parts::fill_parts;
@@ -24,11 +24,15 @@ pub fn step(m: &mut RateMatrix, scratch: &mut Row)
         → entry m.new i j ≡ eliminated (entry m.old) (cap m.old) m.new.alive i j }
     ensures row { length scratch.new ≡ length scratch.old }
 {
-    eliminate(m, scratch);
+    let state = m.alive() - 1;
+    fill_parts(m, state, scratch);
+    m.retire();
+    raise_rows(m, scratch.as_slice());
 }
 
-/// Eliminates the last state that is alive, in either form of the matrix.
-pub(crate) fn eliminate(m: &mut RateMatrix, scratch: &mut Row)
+/// Does what [`step`] does, in a packed matrix.
+pub(crate) fn step_packed(m: &mut RateMatrix, scratch: &mut Row)
+    requires form { m.old.packed ≡ true }
     requires alive { 2 ≤ m.old.alive }
     requires room { m.old.size ≤ length scratch.old }
     ensures frame { HasSameFrame m.old m.new }
@@ -40,11 +44,11 @@ pub(crate) fn eliminate(m: &mut RateMatrix, scratch: &mut Row)
     let state = m.alive() - 1;
     fill_parts(m, state, scratch);
     m.retire();
-    raise_rows(m, scratch.as_slice());
+    m.update_rows_alone(scratch.as_slice());
 }
 
-/// Eliminates the last state that is alive in a packed matrix, its rows by so many workers.
-pub(crate) fn eliminate_by_workers<R: Threads + Sync, G: Gate + Sync>(
+/// Does what [`step_packed`] does, by so many workers.
+pub(crate) fn step_by_workers<R: Threads + Sync, G: Gate + Sync>(
     rt: &R,
     m: &mut RateMatrix,
     scratch: &mut Row,
@@ -70,10 +74,10 @@ pub(crate) fn eliminate_by_workers<R: Threads + Sync, G: Gate + Sync>(
 }
 
 /// Adds to the entries between the states that are alive what goes through the next state, in these parts.
-pub(crate) fn raise_rows(m: &mut RateMatrix, parts: &[Iv])
+fn raise_rows(m: &mut RateMatrix, parts: &[Iv])
+    requires form { m.old.packed ≡ false }
     requires eliminated { m.old.alive < m.old.size }
     requires parts { m.old.alive ≤ length parts.now }
-    requires kept { (j : ℕ) → j < m.old.alive → ¬ IsKept m.old m.old.alive j → part_in parts.now j ≡ exact_ends 0 }
     ensures frame { HasSameFrame m.old m.new }
     ensures alive { m.new.alive ≡ m.old.alive }
     ensures entries { (i j : ℕ) → i < m.old.size → j < m.old.size → entry m.new i j
@@ -85,10 +89,10 @@ pub(crate) fn raise_rows(m: &mut RateMatrix, parts: &[Iv])
 }
 
 fn raise_row(m: &mut RateMatrix, i: usize, parts: &[Iv])
+    requires form { m.old.packed ≡ false }
     requires eliminated { m.old.alive < m.old.size }
     requires row { i < m.old.alive }
     requires parts { m.old.alive ≤ length parts.now }
-    requires kept { (j : ℕ) → j < m.old.alive → ¬ IsKept m.old m.old.alive j → part_in parts.now j ≡ exact_ends 0 }
     ensures frame { HasSameFrame m.old m.new }
     ensures alive { m.new.alive ≡ m.old.alive }
     ensures entries { (j : ℕ) → j < m.old.size → entry m.new i j
@@ -97,32 +101,30 @@ fn raise_row(m: &mut RateMatrix, i: usize, parts: &[Iv])
 {
     let state = m.alive();
     let into = m.entry(i, state);
-    if into.hi() == 0 {
-        return;
-    }
+    let limit = m.scale() * m.outflow(i);
     for j in 0..state {
-        raise_entry(m, i, j, into, parts[j]);
+        raise_entry(m, i, j, into.times_part(parts[j]), limit);
     }
 }
 
-// An entry to which nothing is added need not be kept.
-fn raise_entry(m: &mut RateMatrix, i: usize, j: usize, into: Iv, part: Iv)
+// The entry from a state to itself means nothing, and stays.
+fn raise_entry(m: &mut RateMatrix, i: usize, j: usize, more: Iv, limit: u64)
+    requires form { m.old.packed ≡ false }
     requires eliminated { m.old.alive < m.old.size }
     requires row { i < m.old.alive }
     requires column { j < m.old.alive }
-    requires kept { part.hi ≢ 0 → IsKept m.old i j }
+    requires limit { limit ≡ cap m.old i }
+    requires in_range { limit ≤ 2 ^ 62 }
     ensures frame { HasSameFrame m.old m.new }
     ensures alive { m.new.alive ≡ m.old.alive }
     ensures changed { entry m.new i j
-        ≡ (if i == j then entry m.old i j else raised (entry m.old i j) into part (cap m.old i)) }
+        ≡ (if i == j then entry m.old i j else plus_capped_ends (entry m.old i j) more (cap m.old i)) }
     ensures others { (p q : ℕ) → p < m.old.size → q < m.old.size → (p ≡ i → q ≢ j)
         → entry m.new p q ≡ entry m.old p q }
 {
-    let _size = m.size();
-    if i == j || part.hi() == 0 {
+    if i == j {
         return;
     }
-    let cap = m.scale() * m.outflow(i);
     let entry = m.entry(i, j);
-    m.raise(i, j, entry.plus_capped(into.times_part(part), cap));
+    m.raise(i, j, entry.plus_capped(more, limit));
 }

@@ -3,7 +3,7 @@ ghost use Rattle.rate_matrix.specs.Bands.{HasSameFrame, cap, entry};
 ghost use Rattle.rate_matrix.specs.Elimination.{left_after};
 ghost use Rattle.state_reduction.specs.Laws.{HoldsSolutions};
 
-use crate::elimination::{eliminate, eliminate_by_workers};
+use crate::elimination::{step, step_by_workers, step_packed};
 use crate::row::Row;
 use rate_matrix::{Gate, RateMatrix};
 use std::thread::Threads;
@@ -23,7 +23,10 @@ pub fn reduce(m: &mut RateMatrix, scratch: &mut Row)
     ensures solutions { HoldsSolutions m.old m.new }
     ensures row { length scratch.new ≡ length scratch.old }
 {
-    eliminate_all(m, scratch);
+    let _size = m.size();
+    while m.alive() > 1 {
+        step(m, scratch);
+    }
 }
 
 /// Does what [`reduce`] does, in a packed matrix.
@@ -40,7 +43,10 @@ pub fn reduce_packed(m: &mut RateMatrix, scratch: &mut Row)
     ensures solutions { HoldsSolutions m.old m.new }
     ensures row { length scratch.new ≡ length scratch.old }
 {
-    eliminate_all(m, scratch);
+    let _size = m.size();
+    while m.alive() > 1 {
+        step_packed(m, scratch);
+    }
 }
 
 /// Does what [`reduce_packed`] does, the rows of each elimination by 1 to 16 workers.
@@ -69,22 +75,6 @@ pub fn reduce_rows<R: Threads + Sync, G: Gate + Sync>(
 {
     let _size = m.size();
     while m.alive() > 1 {
-        eliminate_by_workers(rt, m, scratch, workers, gate, place);
-    }
-}
-
-fn eliminate_all(m: &mut RateMatrix, scratch: &mut Row)
-    requires alive { m.old.alive ≡ m.old.size }
-    requires room { m.old.size ≤ length scratch.old }
-    ensures frame { HasSameFrame m.old m.new }
-    ensures alive { m.new.alive ≡ 1 }
-    ensures entries { (i j : ℕ) → i < m.old.size → j < m.old.size
-        → entry m.new i j ≡ left_after (entry m.old) (cap m.old) m.old.size (m.old.size - 1) i j }
-    ensures solutions { HoldsSolutions m.old m.new }
-    ensures row { length scratch.new ≡ length scratch.old }
-{
-    let _size = m.size();
-    while m.alive() > 1 {
-        eliminate(m, scratch);
+        step_by_workers(rt, m, scratch, workers, gate, place);
     }
 }

@@ -11,14 +11,14 @@ loop-m-init g c = record {
 pub loop-m-preserved : goal.loop-m-preserved
 loop-m-preserved g c = record {
   gone =
-      states-fewer c.args.m.now c.loop-m.m c.eliminate_by_workers.new.m c.loop-m.invariant.gone
+      states-fewer c.args.m.now c.loop-m.m c.step_by_workers.new.m c.loop-m.invariant.gone
       (omega (arith, c.alive.ensures.alive, c.loop-m-test.true))
       (record {
-        frame = c.eliminate_by_workers.ensures.frame;
-        alive = c.eliminate_by_workers.ensures.alive;
-        entries = c.eliminate_by_workers.ensures.entries;
+        frame = c.step_by_workers.ensures.frame;
+        alive = c.step_by_workers.ensures.alive;
+        entries = c.step_by_workers.ensures.entries;
       });
-  row = c.eliminate_by_workers.ensures.row ∙ c.loop-m.invariant.row;
+  row = c.step_by_workers.ensures.row ∙ c.loop-m.invariant.row;
 }
 
 pub returns-clause-solutions : goal.returns-clause-solutions

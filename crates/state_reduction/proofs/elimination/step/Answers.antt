@@ -1,12 +1,6 @@
 use Rattle.std.proofs.Common.{arith}
-use Rattle.state_reduction.proofs.Reductions.{loses-state, parts-outside, parts-read}
-use Rattle.state_reduction.proofs.elimination.eliminate.Goals as goal
-
-pub raise_rows-requires-clause-kept : goal.raise_rows-requires-clause-kept
-raise_rows-requires-clause-kept c =
-    parts-outside c.args.m.now c.retire.new.self c.as_slice.result.now c.retire.ensures
-    (parts-read c.args.m.now c.alive-state.result c.fill_parts.new.scratch c.as_slice.result.now c.alive-state.ensures.alive
-    c.as_slice.ensures c.fill_parts.ensures.parts)
+use Rattle.state_reduction.proofs.Reductions.{loses-state, parts-read}
+use Rattle.state_reduction.proofs.elimination.step.Goals as goal
 
 pub returns-clause-entries : goal.returns-clause-entries
 returns-clause-entries c =

@@ -1,6 +1,6 @@
 use Rattle.std.proofs.Common.{◌≡◌, length}
 use Rattle.state_reduction.proofs.Reductions.{StatesGone}
-use Rattle.state_reduction.proofs.reduction.eliminate_all.Given as goal
+use Rattle.state_reduction.proofs.reduction.reduce.Given as goal
 
 abbrev pub invariant-loop-m : goal.invariant-loop-m
 invariant-loop-m l = record {

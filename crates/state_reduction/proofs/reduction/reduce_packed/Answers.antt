@@ -1,6 +1,6 @@
 use Rattle.std.proofs.Common.{refl, ◌∙◌, arith}
 use Rattle.state_reduction.proofs.Reductions.{holds-solutions, states-all, states-end, states-fewer}
-use Rattle.state_reduction.proofs.reduction.eliminate_all.Goals as goal
+use Rattle.state_reduction.proofs.reduction.reduce_packed.Goals as goal
 
 pub loop-m-init : goal.loop-m-init
 loop-m-init c = record {
@@ -11,14 +11,14 @@ loop-m-init c = record {
 pub loop-m-preserved : goal.loop-m-preserved
 loop-m-preserved c = record {
   gone =
-      states-fewer c.args.m.now c.loop-m.m c.eliminate.new.m c.loop-m.invariant.gone
+      states-fewer c.args.m.now c.loop-m.m c.step_packed.new.m c.loop-m.invariant.gone
       (omega (arith, c.alive.ensures.alive, c.loop-m-test.true))
       (record {
-        frame = c.eliminate.ensures.frame;
-        alive = c.eliminate.ensures.alive;
-        entries = c.eliminate.ensures.entries;
+        frame = c.step_packed.ensures.frame;
+        alive = c.step_packed.ensures.alive;
+        entries = c.step_packed.ensures.entries;
       });
-  row = c.eliminate.ensures.row ∙ c.loop-m.invariant.row;
+  row = c.step_packed.ensures.row ∙ c.loop-m.invariant.row;
 }
 
 pub returns-clause-solutions : goal.returns-clause-solutions
