@@ -3,6 +3,10 @@
 
 ghost use Rattle.back_solve.specs.Laws.{AreWeightsDetermined, DependOnEntries, NextWeightFits, WeightsEnclose, WeightsInRange};
 
+mod solve;
+
+pub use solve::solve_back;
+
 /// The weights enclose, up to one common factor, all masses that the entries hold.
 ///
 /// While they are made, each new weight has its ends in order and is below `2^100` before its shift, where the

@@ -5,4 +5,8 @@ pub mod Soundness
 pub mod FarZeros
 pub mod Enclosing
 pub mod Runs
+pub mod Frames
+pub mod Totals
+pub mod RaisedRows
+pub mod Reductions
 mod Worked

@@ -83,7 +83,7 @@ left_after-remains size caps y entries sound begins (suc k) t whole some =
     subst (λ a. Remains size t caps y (eliminated (left_after entries caps size k) caps a)) (sym last)
     (eliminated-remains size t caps y (left_after entries caps size k) (omega (arith, live)) before)
 
-apart_rate : (i j a : ℕ) → i ≢ j → cond (eqb i j) 0 a ≡ a
+pub apart_rate : (i j a : ℕ) → i ≢ j → cond (eqb i j) 0 a ≡ a
 apart_rate i j a apart = grind (arith, nat_tests)
 
 -- all rates in one scale

@@ -2,6 +2,7 @@
 use Rattle.std.specs.Prelude.{◌≡◌, ◌≢◌, ℕ, ◌-◌, ◌<◌, ◌≤◌, List}
 use Rattle.hyper_model.specs.Solutions.{mass_in}
 use Rattle.hyper_model.specs.Tables.{RateTable, Descends, IsTableSolution, between_states}
+use Rattle.rate_matrix.specs.Bands.{BandedRates, IsMatrixOf, cap, entry}
 use Rattle.rate_matrix.specs.Elimination.{AreOutflows, Entries, HoldsAll, IsExact, IsLive, IsWithin, SameEntries, left_after}
 
 -- a matrix as it is before any elimination: the rates of a table in one scale, with its outflows as caps
@@ -17,6 +18,18 @@ HoldsEverySolution =
     (size scale : ℕ) (rates : RateTable) (caps : ℕ → ℕ) (entries left : Entries) (ys : List ℕ)
     → Begins size scale rates caps entries → SameEntries size (left_after entries caps size (size - 1)) left
     → IsTableSolution size (between_states rates) ys → HoldsAll size left (mass_in ys)
+
+-- the same of matrices: of whichever table's rates the first one was, what is left of it holds each solution
+abbrev pub HoldsSolutions : BandedRates → BandedRates → Type 0
+HoldsSolutions old new =
+    (rates : RateTable) (ys : List ℕ) → Begins old.size old.scale rates (cap old) (entry old)
+    → IsTableSolution old.size rates ys → HoldsAll old.size (entry new) (mass_in ys)
+
+-- the matrix of a chain begins with the chain's rates
+abbrev pub MatricesBegin : Type 0
+MatricesBegin =
+    (states top : ℕ) (rates : RateTable) (m : BandedRates) → IsMatrixOf states rates top m → 1 ≤ m.scale
+    → Descends states rates → Begins m.size m.scale rates (cap m) (entry m)
 
 -- no low end is lower than before
 pub record IsRaisedFrom (size : ℕ) (old new : Entries) : Type 0 where

@@ -1,8 +1,18 @@
 //! The elimination of a chain's states in intervals (Grassmann, Taksar and Heyman 1985), and its laws.
 #![tactic(auto)]
 
-ghost use Rattle.state_reduction.specs.Laws.{BeginsSound, HoldsEverySolution, IsDetermined, StaysSound};
+ghost use Rattle.state_reduction.specs.Laws.{BeginsSound, HoldsEverySolution, IsDetermined, MatricesBegin, StaysSound};
 ghost use Rattle.rate_matrix.specs.Levels.{ZerosStay};
+
+mod elimination;
+mod parts;
+mod reduction;
+mod row;
+
+pub use elimination::step;
+pub use parts::leaving;
+pub use reduction::{reduce, reduce_packed, reduce_rows};
+pub use row::Row;
 
 /// What an elimination leaves holds every solution of the balance equations.
 ///
@@ -33,4 +43,9 @@ pub fn law_determined()
 /// Where states are sorted by levels and no entry leads past the next level, no elimination makes one that does.
 pub fn law_far_zeros()
     ensures { ZerosStay }
+{}
+
+/// The matrix of a chain is as a matrix is before any elimination, with the chain's rates as the table.
+pub fn law_beginning()
+    ensures { MatricesBegin }
 {}

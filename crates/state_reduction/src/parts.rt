@@ -1,0 +1,52 @@
+ghost use Rattle.std.specs.Prelude.{◌≡◌, ℕ, ◌*◌, ◌^◌, ◌<◌, ◌≤◌, length};
+ghost use Rattle.rate_matrix.specs.Bands.{entry};
+ghost use Rattle.rate_matrix.specs.Elimination.{part_to, total_below};
+ghost use Rattle.rate_matrix.specs.Rows.{part_in};
+
+use crate::row::Row;
+use fixed_interval::{Iv, Wide};
+use rate_matrix::RateMatrix;
+
+/// What leaves a state for the states before it: the sum of its entries to them.
+///
+/// Its low end is at least 2^26, but for the first state, which nothing leaves so.
+pub fn leaving(m: &RateMatrix, state: usize) -> Wide
+    requires { state < m.now.size }
+    ensures sum { result ≡ total_below (entry m.now state) state }
+    ensures least { 0 < state → 2 ^ 26 ≤ result.lo }
+    ensures ordered { result.lo ≤ result.hi }
+    ensures in_range { result.hi ≤ state * 2 ^ 62 }
+{
+    let _size = m.size();
+    let mut sum = Wide::new(0, 0);
+    for j in 0..state {
+        sum = sum.plus(m.entry(state, j).wide());
+    }
+    sum
+}
+
+/// Puts into the row, for each state before this one, the part of the way out of this one that goes there.
+pub(crate) fn fill_parts(m: &RateMatrix, state: usize, scratch: &mut Row)
+    requires state { state < m.now.size }
+    requires room { state ≤ length scratch.old }
+    ensures row { length scratch.new ≡ length scratch.old }
+    ensures parts { (j : ℕ) → j < state → part_in scratch.new j ≡ part_to (entry m.now) state j }
+{
+    let all = leaving(m, state);
+    for j in 0..state {
+        let part = part_of(m, state, j, all);
+        scratch.put(j, part);
+    }
+}
+
+fn part_of(m: &RateMatrix, state: usize, j: usize, all: Wide) -> Iv
+    requires state { state < m.now.size }
+    requires before { j < state }
+    requires all { all ≡ total_below (entry m.now state) state }
+    requires in_range { all.hi ≤ state * 2 ^ 62 }
+    ensures { result ≡ part_to (entry m.now) state j }
+{
+    let _size = m.size();
+    let entry = m.entry(state, j).wide();
+    entry.part_of(Wide::new(all.lo() - entry.lo(), all.hi() - entry.hi()))
+}
