@@ -228,7 +228,9 @@ impl From<TravelRefusal> for PlanRefusal {
     fn from(refusal: TravelRefusal) -> PlanRefusal {
         match refusal {
             TravelRefusal::DuplicateTravel(row) => PlanRefusal::DuplicateTravel(row),
-            TravelRefusal::MissingTravel(origin, target) => PlanRefusal::MissingTravel(origin, target),
+            TravelRefusal::MissingTravel(origin, target) => PlanRefusal::MissingTravel(
+                origin, target,
+            ),
             TravelRefusal::NoMemory => PlanRefusal::NoMemory,
         }
     }

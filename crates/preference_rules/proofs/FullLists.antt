@@ -70,6 +70,7 @@ group_within units atoms j (rec.Prefer at atom list) some = by (place_or_zero at
   where
     each : All (λ unit. unit < length units) (places_of units list)
     each = All-map (λ unit. unit < length units) (place_or_zero units) list (λ k d lt. place_or_zero-within units (get_or list k d) some)
+
     by : (here : Bool) → All (λ unit. unit < length units)
         (all_units (if here then map (λ (unit : ℕ). unit ∷ []) (places_of units list) else []))
     by true = rw (singles_members (places_of units list)) each
@@ -78,6 +79,7 @@ group_within units atoms j (rec.Group at atom list) some = by (place_or_zero ato
   where
     each : All (λ unit. unit < length units) (places_of units list)
     each = All-map (λ unit. unit < length units) (place_or_zero units) list (λ k d lt. place_or_zero-within units (get_or list k d) some)
+
     by : (here : Bool) → All (λ unit. unit < length units) (all_units (if here then places_of units list ∷ [] else []))
     by true = rw (append-nil (places_of units list)) each
     by false = All-nil (λ unit. unit < length units)

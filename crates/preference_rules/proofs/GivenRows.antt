@@ -99,8 +99,10 @@ begun_at : (begins : List Bool) (units place : ℕ) (b : Bool) → place < units
 begun_at begins units place b lt long =
     let taken : length (take place begins) ≡ place = lists.length-take-le place begins (omega arith) in
     let inside : place < length (replicate units true) = omega (arith, lists.length-replicate units true) in
-    rw (lists.drop_more (replicate units true) place true inside,
-    lists.set_at (take place begins) (get_or (replicate units true) place true) (drop (place + 1) (replicate units true)) b place taken) refl
+    rw (
+      lists.drop_more (replicate units true) place true inside,
+      lists.set_at (take place begins) (get_or (replicate units true) place true) (drop (place + 1) (replicate units true)) b place taken,
+    ) refl
 
 begun_more : (begins : List Bool) (units place : ℕ) → place < units → length begins ≡ units
     → take place begins ++ get_or begins place true ∷ drop (place + 1) (replicate units true) ≡ begun begins units (place + 1)

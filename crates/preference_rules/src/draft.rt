@@ -26,9 +26,9 @@ impl Model for Draft {
     ghost Value = { spec.Draft };
 
     ghost view = { λ a. record {
-        row = record { members = a.members.items; begins = a.begins.items };
-        is_listed = a.is_listed;
-        is_ordered = a.is_ordered;
+      row = record { members = a.members.items; begins = a.begins.items };
+      is_listed = a.is_listed;
+      is_ordered = a.is_ordered;
     } };
 }
 

@@ -57,11 +57,7 @@ fn no_drafts(alloc: Global, atoms: usize) -> Result<Vec<Draft>, AllocError>
     Ok(drafts)
 }
 
-fn take_record(
-    names: &AtomTable,
-    item: &Record,
-    drafts: &mut Vec<Draft>,
-) -> Result<(), ListRefusal>
+fn take_record(names: &AtomTable, item: &Record, drafts: &mut Vec<Draft>) -> Result<(), ListRefusal>
     requires { length drafts.old.items ≡ length names.now.atoms }
     ensures refusal { Checks ListRefusal.NoMemory result (again_refusal (atom_names names.now.atoms) drafts.old.items item.now) }
     ensures taken { OnOk result (drafts.new.items
