@@ -1,13 +1,12 @@
 -- Entries of a matrix in bands: what a new cell or a new band changes, and that the matrix stays sound.
-use Rattle.std.proofs.Common.{◌≡◌, ◌≢◌, ℕ, ◌+◌, ◌-◌, ◌*◌, ◌/◌, ◌%◌, ◌^◌, ◌<◌, ◌≤◌, Bool, true, false, cond, List, [], length, length-set, get_or, set, get_or-set_same, get_or-set_other, slice_index, refl, sym, ap, subst, ◌∙◌, inl, inr, arith}
+use Rattle.std.proofs.Common.{◌≡◌, ◌≢◌, ℕ, ◌+◌, ◌-◌, ◌*◌, ◌/◌, ◌%◌, ◌<◌, ◌≤◌, true, false, cond, List, length, length-set, get_or, set, get_or-set_same, get_or-set_other, slice_index, refl, sym, ap, subst, ◌∙◌, inl, inr, arith}
 use Rattle.std.proofs.lemmas.Bool.{cases_eq}
 use Rattle.std.proofs.lemmas.Bool.Decides.{nat_tests}
 use Rattle.std.proofs.lemmas.List.{get_or_read}
 use Rattle.std.proofs.lemmas.Nat.{div-mul-add, mod-mul-add}
 use Rattle.fixed_interval.specs.Ends.{Ends, exact_ends}
-use Rattle.hyper_model.specs.Sums.{sum_below}
 use Rattle.hyper_model.proofs.Sums.{on_test, sum-le}
-use Rattle.rate_matrix.specs.Elimination.{Entries, IsWithin, IsLive}
+use Rattle.rate_matrix.specs.Elimination.{IsWithin, IsLive}
 use Rattle.rate_matrix.specs.Bands.{BandOfRows, BandedRates, HasRow, HasColumn, HasSameShape, IsKept, IsBanded, IsSound, no_band, has_column, place_in, band_entry, band_at, band_of, entry, cap}
 
 pub has_column_true : (b : BandOfRows) (j : ℕ) → HasColumn b j → has_column b j ≡ true

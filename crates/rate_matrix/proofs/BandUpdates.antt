@@ -1,18 +1,17 @@
 -- A band of the matrix before and after the elimination of a state.
-use Rattle.std.proofs.Common.{◌≡◌, ◌≢◌, ℕ, zero, suc, ◌+◌, ◌-◌, ◌*◌, ◌/◌, ◌^◌, ◌<◌, ◌≤◌, ◌⊎◌, Bool, true, false, min, List, ◌++◌, length, take, drop, get_or, slice_index, refl, sym, ap, subst, ◌∙◌, inl, inr, true≢false, arith, rules, length-take}
+use Rattle.std.proofs.Common.{◌≡◌, ◌≢◌, ℕ, ◌+◌, ◌-◌, ◌*◌, ◌<◌, ◌≤◌, ◌⊎◌, false, min, List, length, take, drop, get_or, slice_index, refl, sym, ap, subst, ◌∙◌, inl, inr, true≢false, arith, rules}
 use Rattle.std.proofs.lemmas.Bool.{cases_lt, cases_eq}
 use Rattle.std.proofs.lemmas.List.{places}
-use Rattle.std.proofs.lemmas.Nat.{div-mul-add}
 use Rattle.std.proofs.Math.Nat.{mul-le-mul_right}
 use Rattle.fixed_interval.specs.Ends.{Ends, exact_ends, times_part_ends}
 use Rattle.hyper_model.proofs.Sums.{on_test}
-use Rattle.rate_matrix.specs.Elimination.{Entries, raised, raised_by}
-use Rattle.rate_matrix.specs.Bands.{BandOfRows, HasRow, HasColumn, HasSameShape, has_column, band_entry, place_in, cell_of}
+use Rattle.rate_matrix.specs.Elimination.{Entries, raised_by}
+use Rattle.rate_matrix.specs.Bands.{BandOfRows, HasRow, HasColumn, has_column, band_entry, place_in, cell_of}
 use Rattle.rate_matrix.specs.Rows.{AreAfter, CanEliminate, CanUpdate, IsUpdated, part_in, rows_from}
 use Rattle.rate_matrix.proofs.Raising.{is_raised-from, is_raised-to, is_raised-itself, raised_by-before, raised_by-stays}
 use Rattle.rate_matrix.proofs.RowUpdates.{raised-nothing, nothing_to_give, no_part}
 use Rattle.rate_matrix.proofs.RowsOfBand.{raised_by-alike}
-use Rattle.rate_matrix.proofs.BandLemmas.{band_entry_kept, band_entry_none, cells_shape, has_column_of, has_column_true, place_within, same_shape}
+use Rattle.rate_matrix.proofs.BandLemmas.{band_entry_kept, band_entry_none, cells_shape, has_column_of, has_column_true, same_shape}
 
 -- an entry to which nothing is added
 pub raised_by-nothing : (parts : ℕ → Ends) (a : Entries) (caps : ℕ → ℕ) (t i j : ℕ)

@@ -1,16 +1,16 @@
 -- A matrix of exact entries, filled row by row, and why it is sound.
-use Rattle.std.proofs.Common.{◌≡◌, ◌≢◌, ℕ, suc, ◌+◌, ◌-◌, ◌*◌, ◌/◌, ◌%◌, ◌^◌, ◌<◌, ◌≤◌, Bool, true, false, nat_le, nat_lt, ◌&&◌, List, [], ◌∷◌, ◌++◌, length, length-set, length-append, set, get_or, slice_index, refl, sym, ap, subst, ◌∙◌, inl, inr, arith}
-use Rattle.std.proofs.lemmas.Bool.{cases_lt, cases_eq, ne_eqb}
+use Rattle.std.proofs.Common.{◌≡◌, ◌≢◌, ℕ, ◌+◌, ◌*◌, ◌/◌, ◌^◌, ◌<◌, ◌≤◌, Bool, false, nat_le, nat_lt, ◌&&◌, List, [], ◌∷◌, ◌++◌, length, length-set, set, get_or, slice_index, refl, sym, ap, subst, ◌∙◌, inl, inr, arith}
+use Rattle.std.proofs.lemmas.Bool.{cases_eq}
 use Rattle.std.proofs.lemmas.List.{length_push, get_or_append_left, get_or_push}
 use Rattle.std.proofs.Math.Nat.{mul-le-mul_left, mul-le-mul_right}
-use Rattle.fixed_interval.specs.Ends.{Ends, between, exact_ends}
+use Rattle.fixed_interval.specs.Ends.{exact_ends}
 use Rattle.hyper_model.specs.Sums.{sum_below}
 use Rattle.hyper_model.specs.Tables.{RateTable, Descends, between_states}
 use Rattle.hyper_model.proofs.Sums.{on_test, sum-same, sum-scaled, place_le_sum}
 use Rattle.hyper_model.proofs.WordRates.{descends_between}
-use Rattle.rate_matrix.specs.Elimination.{IsLive, IsWithin, outflow_of, total_below}
-use Rattle.rate_matrix.specs.Bands.{BandOfRows, BandedRates, HasRow, HasColumn, HasSameShape, IsBanded, IsMatrixOf, IsSound, band_at, band_entry, band_of, cap, cell_of, entry, has_column, laid_out, no_band, outflow, parts_matrix}
-use Rattle.rate_matrix.proofs.BandLemmas.{band_at_same, band_changed, band_entry_kept, band_entry_none, band_read, banded_changed, entry_is, has_column_of, level_read, same_shape, shape_column, shape_row, with_bands}
+use Rattle.rate_matrix.specs.Elimination.{IsLive, IsWithin, outflow_of}
+use Rattle.rate_matrix.specs.Bands.{BandOfRows, BandedRates, HasRow, HasColumn, HasSameShape, IsBanded, IsMatrixOf, IsSound, band_at, band_of, cap, cell_of, entry, has_column, laid_out, parts_matrix}
+use Rattle.rate_matrix.proofs.BandLemmas.{band_changed, band_entry_kept, band_entry_none, band_read, banded_changed, entry_is, has_column_of, level_read, same_shape, shape_column}
 
 -- the scale of a chain
 pub scale_wide : (top : ℕ) → 1 ≤ top → top ≤ 2 ^ 36 → 2 ^ 26 ≤ 2 ^ 62 / top

@@ -1,12 +1,11 @@
 -- Levels that only rise: the states of a lower level than k are the first ones.
-use Rattle.std.proofs.Common.{◌≡◌, ◌≢◌, ℕ, zero, suc, ◌+◌, ◌-◌, ◌*◌, ◌<◌, ◌≤◌, ◌⊎◌, ◌↔◌, Bool, true, false, cond, ltb, List, [], ◌∷◌, length, slice_index, get_or, count_by, replicate, refl, sym, ap, subst, ◌∙◌, inl, inr, true≢false, arith, rules}
-use Rattle.std.proofs.lemmas.Bool.{cases_lt, cases_eq}
+use Rattle.std.proofs.Common.{◌≡◌, ℕ, zero, suc, ◌+◌, ◌-◌, ◌*◌, ◌<◌, ◌≤◌, ◌↔◌, true, false, cond, ltb, List, [], ◌∷◌, length, slice_index, replicate, refl, sym, ap, subst, ◌∙◌, inl, inr, true≢false, arith, rules}
+use Rattle.std.proofs.lemmas.Bool.{cases_lt}
 use Rattle.std.proofs.lemmas.Bool.Decides.{nat_tests}
 use Rattle.std.proofs.lemmas.List.{places}
 use Rattle.std.proofs.lemmas.List.Sums.{count_by-le-length, sum_by-cons}
-use Rattle.fixed_interval.specs.Ends.{Ends, exact_ends}
-use Rattle.hyper_model.proofs.Sums.{on_test}
-use Rattle.rate_matrix.specs.Bands.{BandOfRows, BandedRates, HasRow, HasColumn, IsBanded, band_of, laid_out, no_band}
+use Rattle.fixed_interval.specs.Ends.{exact_ends}
+use Rattle.rate_matrix.specs.Bands.{BandOfRows, HasRow, HasColumn, IsBanded, band_of, laid_out}
 use Rattle.rate_matrix.specs.LevelBands.{AreBandsOf, below_level, level_band}
 
 abbrev pub Rises : List ℕ → Type 0

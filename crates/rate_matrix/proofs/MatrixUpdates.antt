@@ -1,9 +1,9 @@
 -- A matrix before and after the elimination of a state.
-use Rattle.std.proofs.Common.{◌≡◌, ◌≢◌, ℕ, ◌+◌, ◌-◌, ◌*◌, ◌^◌, ◌<◌, ◌≤◌, List, length, get_or, slice_index, refl, sym, ap, subst, ◌∙◌, inl, inr, arith}
+use Rattle.std.proofs.Common.{◌≡◌, ◌≢◌, ℕ, ◌<◌, ◌≤◌, List, length, get_or, slice_index, refl, sym, ap, subst, ◌∙◌, inl, inr, arith}
 use Rattle.std.proofs.lemmas.Bool.{cases_lt, cases_eq}
 use Rattle.std.proofs.lemmas.List.{get_or_past}
 use Rattle.fixed_interval.specs.Ends.{Ends, exact_ends}
-use Rattle.rate_matrix.specs.Elimination.{Entries, IsWithin, raised, raised_by}
+use Rattle.rate_matrix.specs.Elimination.{Entries, raised_by}
 use Rattle.rate_matrix.specs.Bands.{BandOfRows, BandedRates, HasRow, HasColumn, HasSameFrame, HasSameShape, IsKept, IsSound, band_at, band_entry, band_of, cap, cell_of, entry, no_band}
 use Rattle.rate_matrix.specs.Rows.{CanUpdate, IsUpdated, part_in}
 use Rattle.rate_matrix.proofs.Raising.{is_raised-from, is_raised-to, is_raised-itself, raised_by-before, raised_by-stays, raised-capped, raised-grows}

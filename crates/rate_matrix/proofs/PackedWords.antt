@@ -1,16 +1,16 @@
 -- The words of a plan in bands by levels: which places are kept, and that the rates elsewhere are 0.
-use Rattle.std.proofs.Common.{◌≡◌, ℕ, ◌+◌, ◌<◌, ◌≤◌, ◌^◌, ◌↔◌, ◌⊎◌, Bool, true, false, cond, eqb, List, length, slice_index, refl, sym, ap, subst, ◌∙◌, inl, inr, true≢false, arith}
+use Rattle.std.proofs.Common.{◌≡◌, ℕ, ◌+◌, ◌<◌, ◌↔◌, Bool, true, false, cond, eqb, List, length, slice_index, refl, sym, subst, ◌∙◌, inl, inr, true≢false, arith}
 use Rattle.std.specs.Prelude.{Result, Ok, Err, IfOk}
 use Rattle.std.proofs.lemmas.Bool.{cases_lt}
 use Rattle.hyper_model.specs.declared.parts.PlanParts.{PlanParts}
 use Rattle.hyper_model.specs.Plans.{units}
 use Rattle.hyper_model.specs.Words.{words}
-use Rattle.hyper_model.specs.Tables.{RateTable, between_states, word_table}
+use Rattle.hyper_model.specs.Tables.{RateTable, between_states}
 use Rattle.busy_words.specs.Order.{IsInOrder, WordOrder, word_at}
 use Rattle.busy_words.proofs.Levels.{level_le}
 use Rattle.busy_words.proofs.Ordering.{levels_rise}
 use Rattle.rate_matrix.specs.Bands.{BandOfRows, BandedRates, HasColumn, HasSameShape, IsBanded, IsKept, IsMatrixOf, band_of, has_column, laid_out}
-use Rattle.rate_matrix.specs.LevelBands.{AreBandsOf, level_band}
+use Rattle.rate_matrix.specs.LevelBands.{AreBandsOf}
 use Rattle.rate_matrix.specs.WordChains.{AreNeighbours, rank_level, word_rates}
 use Rattle.rate_matrix.proofs.BandLemmas.{has_column_true, shape_column}
 use Rattle.rate_matrix.proofs.LevelRanks.{Rises, level_band_is, level_kept, levels_banded}

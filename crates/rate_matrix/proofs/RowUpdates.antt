@@ -1,14 +1,14 @@
 -- One row while a state is eliminated, cell by cell.
-use Rattle.std.proofs.Common.{◌≡◌, ◌≢◌, ℕ, zero, suc, ◌+◌, ◌-◌, ◌*◌, ◌/◌, ◌^◌, ◌<◌, ◌≤◌, Bool, true, false, cond, eqb, min, List, length, length-set, get_or, set, get_or-set_same, get_or-set_other, slice_index, refl, sym, ap, subst, ◌∙◌, inl, inr, arith}
+use Rattle.std.proofs.Common.{◌≡◌, ◌≢◌, ℕ, ◌+◌, ◌-◌, ◌*◌, ◌/◌, ◌^◌, ◌<◌, ◌≤◌, true, cond, eqb, min, List, length, length-set, get_or, set, get_or-set_same, get_or-set_other, slice_index, refl, sym, ap, subst, ◌∙◌, inl, inr, arith}
 use Rattle.std.specs.Int.{div_ceil}
 use Rattle.std.proofs.lemmas.Bool.{cases_lt, cases_eq, ne_eqb}
 use Rattle.std.proofs.lemmas.List.{get_or_read}
 use Rattle.std.proofs.lemmas.Bool.Decides.{nat_tests}
 use Rattle.fixed_interval.specs.Ends.{Ends, exact_ends, between, times_part_ends}
 use Rattle.rate_matrix.specs.Elimination.{Entries, raised, raised_by}
-use Rattle.rate_matrix.specs.Bands.{BandOfRows, HasRow, HasColumn, place_in, cell_of}
+use Rattle.rate_matrix.specs.Bands.{BandOfRows, place_in, cell_of}
 use Rattle.rate_matrix.specs.Rows.{AreAfter, CanEliminate, part_in, rows_from}
-use Rattle.rate_matrix.proofs.Raising.{is_raised-from, is_raised-to, is_raised-itself, raised_by-before, raised_by-stays, raised-ordered}
+use Rattle.rate_matrix.proofs.Raising.{is_raised-to, is_raised-itself, raised_by-before, raised_by-stays}
 
 -- nothing is added where there is nothing to give, or no part of it goes there
 pub raised-nothing : (old into part : Ends) (cap : ℕ) → old.lo ≤ old.hi → old.hi ≤ cap

@@ -1,27 +1,25 @@
 -- The words of a plan as the states of a chain: why it is one, and that its balance is the plan's.
-use Rattle.std.proofs.Common.{◌≡◌, ◌≢◌, ℕ, ◌+◌, ◌-◌, ◌*◌, ◌^◌, ◌<◌, ◌≤◌, ◌↔◌, ◌⊎◌, Bool, true, false, cond, eqb, List, length, map, get_or, slice_index, refl, sym, ap, subst, ◌∙◌, inl, inr, arith}
-use Rattle.std.proofs.lemmas.Bool.{cases_lt, cases_eq}
+use Rattle.std.proofs.Common.{◌≡◌, ℕ, ◌+◌, ◌^◌, ◌<◌, ◌≤◌, ◌↔◌, ◌⊎◌, Bool, true, false, cond, eqb, List, length, sym, ap, subst, ◌∙◌, inl, inr, arith}
+use Rattle.std.proofs.lemmas.Bool.{cases_lt}
 use Rattle.std.proofs.lemmas.List.{get_or-map, length-map}
 use Rattle.hyper_model.specs.declared.parts.PlanParts.{PlanParts}
-use Rattle.hyper_model.specs.Sums.{sum_below}
-use Rattle.hyper_model.specs.Plans.{units, all_calls, all_service, split, IsAccepted}
+use Rattle.hyper_model.specs.Plans.{units, IsAccepted}
 use Rattle.hyper_model.specs.Words.{words, is_busy, turned}
 use Rattle.hyper_model.specs.Laws.{level}
-use Rattle.hyper_model.specs.Rates.{leaving}
 use Rattle.hyper_model.specs.Solutions.{mass_in, SolvesWords}
-use Rattle.hyper_model.specs.Tables.{RateTable, Descends, IsTableSolution, SolvesTable, between_states, turn_rate, word_table}
+use Rattle.hyper_model.specs.Tables.{RateTable, Descends, IsTableSolution, between_states, word_table}
 use Rattle.hyper_model.proofs.Sums.{on_test, sum-le}
 use Rattle.hyper_model.proofs.Bits.{busy_exists, turned_lt}
 use Rattle.hyper_model.proofs.Levels.{level_down, level_up}
 use Rattle.hyper_model.proofs.Chains.{solves_alike}
-use Rattle.hyper_model.proofs.Relabel.{AreInverse, relabelled, renumbered, renumbered_back, sum_relabelled}
+use Rattle.hyper_model.proofs.Relabel.{AreInverse, renumbered, renumbered_back, sum_relabelled}
 use Rattle.hyper_model.proofs.WordTables.{service_positive}
-use Rattle.hyper_model.proofs.WordRates.{leaving_le, leaving_row, table_at_turned, table_elsewhere}
+use Rattle.hyper_model.proofs.WordRates.{leaving_le, leaving_row, table_elsewhere}
 use Rattle.hyper_model.proofs.PlanLaws.{solves_word_table, table_solves_words}
 use Rattle.busy_words.specs.Order.{IsInOrder, WordOrder, rank_of, word_at}
 use Rattle.busy_words.proofs.Ordering.{first_word, levels_rise, words_apart, words_inverse}
 use Rattle.rate_matrix.specs.Elimination.{outflow_of}
-use Rattle.rate_matrix.specs.WordChains.{AreNeighbours, by_rank, rank_level, word_rates, word_top}
+use Rattle.rate_matrix.specs.WordChains.{by_rank, word_rates, word_top}
 
 -- the order is that of the words of the plan
 pub ordered_words : (p : PlanParts) (order : WordOrder) → order.units ≡ units p → IsInOrder order.units order.words

@@ -1,6 +1,6 @@
 -- A matrix of entries, kept in bands. A band has the rows of some states that follow each other, and of each row
 -- the columns from `left` on; what is not kept is exactly 0. One band of all rows and columns is the dense form.
-use Rattle.std.specs.Prelude.{◌≡◌, ◌≢◌, ℕ, ◌+◌, ◌-◌, ◌*◌, ◌/◌, ◌^◌, ◌<◌, ◌≤◌, Bool, false, ◌&&◌, nat_lt, nat_le, if◌then◌else◌, List, [], length, slice_index, slice_index_or}
+use Rattle.std.specs.Prelude.{◌≡◌, ℕ, ◌+◌, ◌-◌, ◌*◌, ◌/◌, ◌^◌, ◌<◌, ◌≤◌, Bool, false, ◌&&◌, nat_lt, nat_le, if◌then◌else◌, List, [], length, slice_index, slice_index_or}
 use Rattle.fixed_interval.specs.Ends.{Ends, exact_ends}
 use Rattle.hyper_model.specs.Tables.{RateTable, between_states}
 use Rattle.rate_matrix.specs.Elimination.{Entries, IsLive, IsWithin, outflow_of}

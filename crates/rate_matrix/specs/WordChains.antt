@@ -1,5 +1,5 @@
 -- The words of a plan as the states of a chain, in their order.
-use Rattle.std.specs.Prelude.{◌≡◌, ℕ, ◌+◌, ◌*◌, ◌≤◌, ◌<◌, ◌↔◌, List, length, map}
+use Rattle.std.specs.Prelude.{ℕ, ◌+◌, ◌*◌, ◌≤◌, List, map}
 use Rattle.hyper_model.specs.declared.parts.PlanParts.{PlanParts}
 use Rattle.hyper_model.specs.Plans.{units, all_calls, all_service, split}
 use Rattle.hyper_model.specs.Laws.{level}
@@ -7,7 +7,6 @@ use Rattle.hyper_model.specs.Solutions.{mass_in}
 use Rattle.hyper_model.specs.Tables.{RateTable, word_table}
 use Rattle.hyper_model.proofs.Relabel.{relabelled}
 use Rattle.busy_words.specs.Order.{WordOrder, word_at}
-use Rattle.rate_matrix.specs.Bands.{BandedRates, IsKept}
 
 -- the rates between words, by rank
 abbrev pub word_rates : PlanParts → WordOrder → RateTable

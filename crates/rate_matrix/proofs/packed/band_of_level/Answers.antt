@@ -1,5 +1,5 @@
 use Rattle.std.specs.Prelude.{IfOk}
-use Rattle.std.proofs.Common.{◌≡◌, ◌-◌, subst, sym, ap, ◌∙◌}
+use Rattle.std.proofs.Common.{◌≡◌, ◌-◌, subst, ap, ◌∙◌}
 use Rattle.rate_matrix.specs.LevelBands.{below_level}
 use Rattle.rate_matrix.proofs.LevelRanks.{level_band_made}
 use Rattle.rate_matrix.proofs.packed.band_of_level.Goals as goal

@@ -1,4 +1,4 @@
-use Rattle.std.proofs.Common.{◌≡◌, ℕ, ◌<◌, ◌≤◌, length, slice_index_or}
+use Rattle.std.proofs.Common.{◌≡◌, ℕ, ◌<◌, ◌≤◌, slice_index_or}
 use Rattle.rate_matrix.specs.Bands.{no_band}
 use Rattle.rate_matrix.specs.Rows.{IsUpdated}
 use Rattle.rate_matrix.proofs.update.update_bands_alone.Given as goal

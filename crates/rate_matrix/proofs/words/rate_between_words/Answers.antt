@@ -1,9 +1,7 @@
-use Rattle.std.proofs.Common.{◌≡◌, ◌<◌, ◌*◌, ◌^◌, ◌%◌, ℕ, sym, ap, subst, ◌∙◌, below_more, arith}
+use Rattle.std.proofs.Common.{◌≡◌, ◌<◌, ◌*◌, ◌^◌, ◌%◌, ℕ, sym, ap, ◌∙◌, arith}
 use Rattle.std.specs.Prelude.{bit_xor}
 use Rattle.std.proofs.Math.Pow.{pow-lt}
-use Rattle.hyper_model.specs.Plans.{units}
-use Rattle.hyper_model.specs.Tables.{turn_rate, word_table}
-use Rattle.hyper_model.specs.Words.{turned}
+use Rattle.hyper_model.specs.Tables.{word_table}
 use Rattle.hyper_model.proofs.WordRates.{table_at_turned, table_elsewhere}
 use Rattle.rate_matrix.proofs.words.rate_between_words.Goals as goal
 

@@ -1,6 +1,5 @@
-use Rattle.std.proofs.Common.{◌≡◌, ◌+◌, ◌*◌, ◌^◌, ◌<◌, ◌≤◌, length, sym, ap, subst, ◌∙◌, arith}
+use Rattle.std.proofs.Common.{◌≡◌, ◌+◌, ◌*◌, ◌^◌, ◌≤◌, length, sym, ap, subst, ◌∙◌, arith}
 use Rattle.fixed_interval.specs.Ends.{exact_ends}
-use Rattle.hyper_model.specs.Tables.{between_states}
 use Rattle.rate_matrix.proofs.RowFilling.{IsFilledTo, filling_starts, filling_goes_on, filling_ends, rate_small, sum_small, scaled_small}
 use Rattle.rate_matrix.proofs.band.Band.fill_row.Goals as goal
 

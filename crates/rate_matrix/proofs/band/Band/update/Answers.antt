@@ -1,7 +1,7 @@
-use Rattle.std.proofs.Common.{◌≡◌, ◌+◌, ◌-◌, ◌*◌, ◌≤◌, ◌<◌, min, false, length, take, subst, sym, ap, ◌∙◌, inl, inr, arith}
+use Rattle.std.proofs.Common.{◌≡◌, ◌-◌, ◌*◌, min, take, subst, sym, ap, ◌∙◌, inl, inr, arith}
 use Rattle.std.proofs.lemmas.List.{with_items_is}
-use Rattle.rate_matrix.specs.Bands.{HasColumn, has_column}
-use Rattle.rate_matrix.specs.Rows.{CanEliminate, CanUpdate, IsUpdated, rows_from}
+use Rattle.rate_matrix.specs.Bands.{HasColumn}
+use Rattle.rate_matrix.specs.Rows.{CanEliminate, rows_from}
 use Rattle.rate_matrix.proofs.BandLemmas.{has_column_of}
 use Rattle.rate_matrix.proofs.BandUpdates.{can_head, stays, updated_cells}
 use Rattle.rate_matrix.proofs.band.Band.update.Goals as goal

@@ -1,6 +1,6 @@
-use Rattle.std.proofs.Common.{◌≡◌, ℕ, ◌+◌, ◌<◌, ◌∷◌, [], ◌++◌, ◌/◌, ◌^◌, sym, ap, subst, ◌∙◌, arith}
-use Rattle.rate_matrix.specs.Bands.{IsMatrixOf, IsSound, parts_matrix}
-use Rattle.rate_matrix.proofs.ExactMatrix.{AreFilledTo, AreRatesOf, filled_more, filled_row, filled_zeros, made_sound, made_matrix}
+use Rattle.std.proofs.Common.{◌<◌, ◌/◌, ◌^◌, sym, subst, arith}
+use Rattle.rate_matrix.specs.Bands.{IsMatrixOf, parts_matrix}
+use Rattle.rate_matrix.proofs.ExactMatrix.{filled_more, filled_row, filled_zeros, made_sound, made_matrix}
 use Rattle.rate_matrix.proofs.matrix.RateMatrix.exact.Goals as goal
 
 pub fill_row-flow-requires-clause-zeros : goal.fill_row-flow-requires-clause-zeros

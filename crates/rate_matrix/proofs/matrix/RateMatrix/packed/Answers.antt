@@ -1,4 +1,4 @@
-use Rattle.std.proofs.Common.{◌≡◌, ◌+◌, true, ap, subst, arith}
+use Rattle.std.proofs.Common.{◌+◌, true, subst}
 use Rattle.hyper_model.specs.Plans.{units}
 use Rattle.hyper_model.specs.Words.{words}
 use Rattle.rate_matrix.specs.Bands.{laid_out}

@@ -1,4 +1,4 @@
-use Rattle.std.proofs.Common.{◌≡◌, sym, ap, subst, ◌∙◌, arith}
+use Rattle.std.proofs.Common.{sym, ap, subst, ◌∙◌, arith}
 use Rattle.rate_matrix.specs.Bands.{IsSound, HasColumn, entry}
 use Rattle.rate_matrix.proofs.BandLemmas.{kept_place, band_read, entry_written, sound_entry, at_entry, at_other_entry}
 use Rattle.rate_matrix.proofs.matrix.RateMatrix.raise.Goals as goal

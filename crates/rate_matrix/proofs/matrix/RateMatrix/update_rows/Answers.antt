@@ -1,9 +1,6 @@
-use Rattle.std.proofs.Common.{◌≡◌, ◌<◌, ◌≤◌, length, sym, ap, subst, ◌∙◌, arith}
+use Rattle.std.proofs.Common.{arith}
 use Rattle.std.proofs.lemmas.List.{with_items_is}
-use Rattle.rate_matrix.specs.Bands.{IsKept, cap, entry}
-use Rattle.rate_matrix.specs.Elimination.{raised_by}
-use Rattle.rate_matrix.specs.Rows.{part_in}
-use Rattle.rate_matrix.proofs.MatrixUpdates.{IsEliminated, can_update_each, update_all}
+use Rattle.rate_matrix.proofs.MatrixUpdates.{can_update_each, update_all}
 use Rattle.rate_matrix.proofs.matrix.RateMatrix.update_rows.Goals as goal
 
 pub update_bands-requires-clause-bands : goal.update_bands-requires-clause-bands

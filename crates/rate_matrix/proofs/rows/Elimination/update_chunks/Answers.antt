@@ -1,8 +1,8 @@
-use Rattle.std.proofs.Common.{◌≡◌, ◌+◌, ◌-◌, ◌*◌, ◌/◌, ◌<◌, ℕ, List, length, subst, sym, ap, ◌∙◌, arith}
+use Rattle.std.proofs.Common.{◌/◌, length, arith}
 use Rattle.fixed_interval.specs.Ends.{exact_ends}
 use Rattle.rate_matrix.specs.Rows.{rows_from}
 use Rattle.rate_matrix.proofs.BandLemmas.{place_within}
-use Rattle.rate_matrix.proofs.RowChunks.{can_chunk, cell_after, chunks_after, ends_inside}
+use Rattle.rate_matrix.proofs.RowChunks.{can_chunk, cell_after, chunks_after}
 use Rattle.rate_matrix.proofs.rows.Elimination.update_chunks.Goals as goal
 
 pub for_each_chunk_mut-requires-clause-accepts : goal.for_each_chunk_mut-requires-clause-accepts

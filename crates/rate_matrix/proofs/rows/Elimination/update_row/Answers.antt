@@ -1,4 +1,4 @@
-use Rattle.std.proofs.Common.{◌≡◌, ◌-◌, ◌≤◌, get_or, refl, sym, subst, ap, arith}
+use Rattle.std.proofs.Common.{◌≡◌, ◌-◌, ◌≤◌, get_or, refl, subst, arith}
 use Rattle.std.proofs.lemmas.List.{get_or_read}
 use Rattle.fixed_interval.specs.Ends.{exact_ends}
 use Rattle.rate_matrix.proofs.RowUpdates.{IsRowUpdatedTo, read_capped, read_ordered, row_ends, row_more, row_stays}

@@ -1,4 +1,4 @@
-use Rattle.std.proofs.Common.{◌≡◌, ◌+◌, ◌-◌, ◌*◌, ◌/◌, ◌<◌, length, arith}
+use Rattle.std.proofs.Common.{◌/◌, ◌<◌, length, arith}
 use Rattle.rate_matrix.specs.Rows.{rows_from}
 use Rattle.rate_matrix.proofs.RowsOfBand.{can_slice, slice_more}
 use Rattle.rate_matrix.proofs.rows.Elimination.update_rows.Goals as goal

@@ -1,4 +1,4 @@
-use Rattle.std.proofs.Common.{◌≡◌, ◌≤◌, ◌+◌, ◌*◌, ap, subst, sym, arith}
+use Rattle.std.proofs.Common.{◌≡◌, ◌≤◌, ◌+◌, ◌*◌, subst, arith}
 use Rattle.hyper_model.specs.Plans.{all_calls, all_service, split}
 use Rattle.rate_matrix.specs.WordChains.{word_rates}
 use Rattle.hyper_model.specs.Words.{words}
