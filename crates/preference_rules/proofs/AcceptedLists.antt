@@ -1,7 +1,6 @@
 -- The lists that records give, or that follow from where units and calls are, are those of a plan.
-use Rattle.std.proofs.Common.{◌≡◌, ◌∙◌, ℕ, ◌<◌, true, List, [], length, drop, get_or, refl, sym, subst, arith}
-use Rattle.std.specs.Prelude.{Option, Some, None, Result, Ok, Err, map}
-use Rattle.std.specs.List.{range_with_len}
+use Rattle.std.proofs.Common.{◌≡◌, ◌∙◌, ℕ, ◌<◌, List, length, drop, get_or, refl, sym, subst, arith}
+use Rattle.std.specs.Prelude.{Option, Some, None, Ok}
 use Rattle.std.specs.Option.{option_or}
 use Rattle.std.proofs.lemmas.List.{get_or-map, length-map}
 use Rattle.std.proofs.lemmas.List.FromFn.{get_or-map-range_with_len, length-map-range_with_len}
@@ -22,7 +21,6 @@ use Rattle.preference_rules.specs.CentreOrder.{centre_list}
 use Rattle.preference_rules.specs.Drafts.{drafts_of, given_groups, row_of_groups}
 use Rattle.preference_rules.specs.Given.{asked_records_refusal, centred_lists_of, drafts_refusal, given_lists, given_lists_of, preferences_of, twice_records_refusal}
 use Rattle.preference_rules.specs.Places.{cost_of}
-use Rattle.preference_rules.specs.declared.refusal.ListRefusal.{ListRefusal}
 use Rattle.preference_rules.proofs.CentreLists.{centre_is}
 use Rattle.preference_rules.proofs.GivenRows.{passed_full}
 

@@ -7,7 +7,7 @@ use Rattle.hyper_model.specs.Groups.{AtomList, GroupLists, no_row, row_of}
 use Rattle.hyper_model.specs.declared.kinds.Rule.{Rule}
 use Rattle.hyper_model.specs.declared.parts.Atom.{Atom}
 use Rattle.preference_rules.specs.CentreOrder.{centre_list}
-use Rattle.preference_rules.specs.Centred.{centred_row, plain_list}
+use Rattle.preference_rules.specs.Centred.{centred_row}
 use Rattle.preference_rules.specs.Rows.{with_members}
 use Rattle.preference_rules.specs.Places.{cost_of}
 use Rattle.preference_rules.proofs.CentreLists.{length-centre_list}

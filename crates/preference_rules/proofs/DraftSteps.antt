@@ -1,6 +1,6 @@
 -- What records give for an atom's list, with one record more.
-use Rattle.std.proofs.Common.{◌≡◌, ◌≢◌, ◌∙◌, ◌⊎◌, ℕ, zero, suc, ◌+◌, ◌<◌, ◌≤◌, true, false, List, [], ◌∷◌, ◌++◌, length, get_or, set, take, replicate, refl, sym, ap, inl, inr, arith, append_assoc}
-use Rattle.std.specs.Prelude.{Bool, ◌==◌, ◌||◌, if◌then◌else◌, Option, Some, None, map, slice_get}
+use Rattle.std.proofs.Common.{◌≡◌, ◌≢◌, ◌∙◌, ◌⊎◌, ℕ, ◌+◌, ◌<◌, true, false, List, [], ◌∷◌, ◌++◌, length, get_or, set, take, replicate, refl, sym, ap, inl, inr, arith, append_assoc}
+use Rattle.std.specs.Prelude.{Bool, ◌==◌, ◌||◌, if◌then◌else◌, Some, None, map, slice_get}
 use Rattle.std.specs.List.{flat_map, list_any, range_with_len}
 use Rattle.std.proofs.lemmas.Bool.Decides.{nat_tests}
 use Rattle.std.proofs.lemmas.List.{append-nil, get_or-replicate, length-append, length-map, length-replicate, length-take-le, map-append, replicate_more, take_more}
@@ -10,12 +10,11 @@ use Rattle.std.proofs.lemmas.Bool.{cases_eq}
 use Rattle.std.proofs.lemmas.List.{get_or-set_other, get_or-set_same, length-set}
 use Rattle.std.proofs.lemmas.List.FromFn.{fill_by_all, get_or-map-range_with_len, length-map-range_with_len}
 use Rattle.std.proofs.lemmas.Option.{get_or_from_slice_get, slice_get_within}
-use Rattle.hyper_model.specs.Groups.{AtomList}
 use Rattle.plan_text.specs.declared.record.Record.{Record}
 use Rattle.plan_text.specs.declared.record.Record.TheVariants as rec
 use Rattle.atom_table.specs.Names.{place_or_zero}
 use Rattle.atom_table.proofs.OwnNames.{place_or_zero-within}
-use Rattle.preference_rules.specs.Drafts.{Draft, begins_of, draft_at, draft_of, drafts_of, given_groups, groups_for, is_group_for, is_list_for, is_order_for, no_draft, places_of, row_of_groups, with_group, with_next, with_order, with_record}
+use Rattle.preference_rules.specs.Drafts.{Draft, begins_of, draft_at, draft_of, drafts_of, given_groups, groups_for, is_list_for, is_order_for, no_draft, places_of, row_of_groups, with_group, with_next, with_order, with_record}
 use Rattle.preference_rules.specs.Given.{again_refusal, twice_refusal}
 use Rattle.preference_rules.specs.declared.refusal.ListRefusal.{ListRefusal}
 

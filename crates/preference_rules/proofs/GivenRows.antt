@@ -1,13 +1,11 @@
 -- The lists of drafts that no record and no list is refused for.
-use Rattle.std.proofs.Common.{◌≡◌, ◌∙◌, ◌⊎◌, ℕ, suc, ◌+◌, ◌-◌, ◌<◌, ◌≤◌, true, false, List, [], ◌∷◌, ◌++◌, length, get_or, set, take, drop, replicate, refl, sym, ap, inl, inr, arith}
-use Rattle.std.specs.Prelude.{Bool, not, if◌then◌else◌, All, Option, Some, None, Ok, Err, map, slice_index_or}
+use Rattle.std.proofs.Common.{◌≡◌, ◌∙◌, ◌⊎◌, ℕ, ◌+◌, ◌<◌, true, false, List, [], ◌∷◌, ◌++◌, length, get_or, set, take, drop, replicate, refl, sym, ap, inl, inr, arith}
+use Rattle.std.specs.Prelude.{Bool, not, if◌then◌else◌, All, Option, Some, None, Ok, Err, map}
 use Rattle.std.specs.List.{range_with_len}
 use Rattle.std.proofs.lemmas.List as lists
 use Rattle.std.proofs.lemmas.List.Elements.{All-from_get_or}
-use Rattle.std.proofs.lemmas.List.FromFn.{get_or-map-range_with_len}
 use Rattle.hyper_model.specs.Acceptance.{IsFullList}
 use Rattle.hyper_model.specs.Groups.{AtomList, GroupLists, no_row, row_of, with_joined}
-use Rattle.plan_text.specs.Steps.{first_over}
 use Rattle.plan_text.specs.declared.record.Record.{Record}
 use Rattle.plan_text.proofs.Over.{over-each}
 use Rattle.preference_rules.specs.Drafts.{Draft, draft_of, drafts_of, given_groups, no_draft, row_of_groups}
@@ -77,11 +75,6 @@ row-put rows atom members begins lt =
     lists.get_or-set_same rows.rows atom (record (row_of rows atom) { members = members }) no_row lt in
     rw (there, lists.set-set) refl
 
-pub begins-kept : (rows : GroupLists) (atom : ℕ) (members : List ℕ) (begins : List Bool) → atom < length rows.rows
-    → (row_of rows atom).begins ≡ begins → (row_of (with_members rows atom members) atom).begins ≡ begins
-begins-kept rows atom members begins lt is =
-    ap (λ (row : AtomList). row.begins) (lists.get_or-set_same rows.rows atom (record (row_of rows atom) { members = members }) no_row lt) ∙ is
-
 -- a place that is joined to the one before it
 joined-put : (rows : GroupLists) (atom place : ℕ) (begins : List Bool) → atom < length rows.rows
     → with_joined (with_begins rows atom begins) atom place ≡ with_begins rows atom (set begins place false)
@@ -140,28 +133,6 @@ pub begins-more : (rows : GroupLists) (atom place : ℕ) (begins : List Bool) (h
     ≡ with_begins rows atom (begun begins rows.units (place + 1))
 begins-more rows atom place begins true there lt long is = begins-passed rows atom place begins lt long is
 begins-more rows atom place begins false there lt long is = begins-joined rows atom place begins there lt long is
-
--- nothing is written, and all is
-pub begins-first : (rows : GroupLists) (atom : ℕ) (begins : List Bool) → length begins ≡ rows.units → get_or begins 0 true ≡ true
-    → (row_of rows atom).begins ≡ replicate rows.units true → rows ≡ with_begins rows atom (begun begins rows.units 1)
-begins-first rows atom begins long first is =
-    let same : begun begins rows.units 1 ≡ (row_of rows atom).begins = at_first begins rows.units long first ∙ sym is in
-    let kept : set rows.rows atom (row_of rows atom) ≡ rows.rows = lists.set-get_or rows.rows atom no_row in
-    sym (ap (with_begins rows atom) same ∙ ap (λ (all : List AtomList). record rows { rows = all }) kept)
-  where
-    at_first : (begins : List Bool) (units : ℕ) → length begins ≡ units → get_or begins 0 true ≡ true
-        → begun begins units 1 ≡ replicate units true
-    at_first [] units e f = let none : units ≡ 0 = omega arith in rw none refl
-    at_first (b ∷ begins) units e f =
-        let more : units ≡ suc (length begins) = omega arith in
-        rw more (ap (λ first. first ∷ replicate (length begins) true) f)
-
-pub begins-all : (rows : GroupLists) (atom place : ℕ) (begins : List Bool) → length begins ≡ rows.units → rows.units ≤ place
-    → with_begins rows atom (begun begins rows.units place) ≡ with_begins rows atom begins
-begins-all rows atom place begins long le =
-    let short : length begins ≤ place = omega arith in
-    let none : length (replicate rows.units true) ≤ place = omega (arith, lists.length-replicate rows.units true) in
-    rw (lists.take_all place begins short, lists.drop_all place (replicate rows.units true) none, lists.append-nil) refl
 
 -- the lists where those of the first drafts are made
 abbrev pub drafts_first : ℕ → List Draft → ℕ → GroupLists

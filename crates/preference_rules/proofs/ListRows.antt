@@ -1,8 +1,8 @@
 -- Rows of lists, written one by one.
-use Rattle.std.proofs.Common.{◌≡◌, ◌∙◌, ℕ, zero, suc, ◌+◌, ◌-◌, ◌<◌, ◌≤◌, List, [], ◌∷◌, ◌++◌, length, map, take, drop, set, get_or, replicate, refl, sym, ap, arith, append_assoc}
+use Rattle.std.proofs.Common.{◌≡◌, ◌∙◌, ℕ, suc, ◌+◌, ◌-◌, ◌<◌, ◌≤◌, List, ◌∷◌, ◌++◌, length, map, take, drop, set, get_or, replicate, refl, ap, arith, append_assoc}
 use Rattle.std.proofs.lemmas.List.{get_or-append_right, get_or_at, length-map, length-take-le, set_at, take_more}
 use Rattle.std.proofs.lemmas.List as lists
-use Rattle.hyper_model.specs.Groups.{AtomList, GroupLists, list_of, no_row, row_of, with_member}
+use Rattle.hyper_model.specs.Groups.{GroupLists, list_of, no_row, row_of, with_member}
 use Rattle.preference_rules.specs.Rows.{with_members}
 
 -- the first j things made into rows, and blank rows behind them
@@ -34,13 +34,6 @@ made_more make blank things j x lt is =
       lists.map-append,
       append_assoc,
     ) refl
-
--- all rows
-pub made_all : {A B : Type 0} (make : A → B) (blank : B) (things : List A) (j : ℕ) → length things ≤ j
-    → made_rows make blank things j ≡ map make things
-made_all make blank things j le =
-    let none : length things - j ≡ 0 = omega arith in
-    rw (none, lists.take_all j things le, lists.append-nil) refl
 
 -- units written over a row's places, one by one
 pub written_more : (old new : List ℕ) (place : ℕ) → place < length new → length old ≡ length new

@@ -1,5 +1,5 @@
 -- What records give for the preference list of one atom.
-use Rattle.std.specs.Prelude.{◌≡◌, ◌==◌, ◌||◌, ◌++◌, ℕ, Bool, true, false, if◌then◌else◌, List, [], ◌∷◌, length, map, replicate, slice_index_or, slice_set}
+use Rattle.std.specs.Prelude.{◌==◌, ◌||◌, ◌++◌, ℕ, Bool, true, false, if◌then◌else◌, List, [], ◌∷◌, length, map, replicate, slice_index_or, slice_set}
 use Rattle.std.specs.List.{flat_map, list_any, range_with_len}
 use Rattle.hyper_model.specs.Groups.{AtomList}
 use Rattle.plan_text.specs.declared.record.Record.{Record}

@@ -1,10 +1,10 @@
 -- Which preference lists records give, or why they give none.
 use Rattle.std.specs.Prelude.{◌≡◌, ℕ, ◌+◌, ◌==◌, Bool, true, if◌then◌else◌, not, List, [], length, map, Option, Some, None, Result, Ok, slice_index_or}
-use Rattle.std.specs.List.{flat_map, list_any, range_with_len}
+use Rattle.std.specs.List.{list_any, range_with_len}
 use Rattle.std.specs.Option.{option_or}
 use Rattle.hyper_model.specs.Acceptance.{places_in}
 use Rattle.hyper_model.specs.Grid.{Grid}
-use Rattle.hyper_model.specs.Groups.{AtomList, GroupLists}
+use Rattle.hyper_model.specs.Groups.{GroupLists}
 use Rattle.hyper_model.specs.Plans.{all_below}
 use Rattle.hyper_model.specs.declared.kinds.Rule.{Rule}
 use Rattle.hyper_model.specs.declared.kinds.Rule.TheVariants as rule

@@ -1,9 +1,9 @@
-use Rattle.std.proofs.Common.{◌∙◌, ◌≡◌, ℕ, List, ap, sym, arith, length}
+use Rattle.std.proofs.Common.{◌∙◌, ℕ, List, ap, sym, arith, length}
 use Rattle.hyper_model.specs.Groups.{GroupLists}
 use Rattle.preference_rules.specs.Rows.{with_members}
 use Rattle.preference_rules.specs.CentreOrder.{centre_list}
 use Rattle.preference_rules.specs.Places.{cost_of}
-use Rattle.preference_rules.proofs.CentredRows.{centred_first, centred_more}
+use Rattle.preference_rules.proofs.CentredRows.{centred_more}
 use Rattle.preference_rules.proofs.CentreLists.{length-centre_list}
 use Rattle.preference_rules.proofs.centre.centred.Goals as goal
 

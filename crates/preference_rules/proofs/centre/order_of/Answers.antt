@@ -1,4 +1,4 @@
-use Rattle.std.proofs.Common.{◌∙◌, ◌≡◌, ℕ, ◌<◌, List, ap, sym, subst, arith, length}
+use Rattle.std.proofs.Common.{◌∙◌, ◌≡◌, ℕ, List, ap, subst, length}
 use Rattle.std.specs.Prelude.{IfOk, slice_index}
 use Rattle.preference_rules.specs.CentreOrder.{centre_list}
 use Rattle.preference_rules.specs.Places.{cost_of}

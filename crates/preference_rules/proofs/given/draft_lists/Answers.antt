@@ -1,4 +1,4 @@
-use Rattle.std.proofs.Common.{◌∙◌, ◌<◌, ap, length, sym, arith}
+use Rattle.std.proofs.Common.{◌∙◌, ap, sym, arith}
 use Rattle.hyper_model.specs.Groups.{GroupLists}
 use Rattle.preference_rules.specs.Rows.{with_row}
 use Rattle.preference_rules.proofs.GivenRows.{drafts_more}

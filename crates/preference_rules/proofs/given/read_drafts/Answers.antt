@@ -1,8 +1,8 @@
-use Rattle.std.proofs.Common.{◌≡◌, ◌∙◌, ◌<◌, ◌≤◌, List, ap, length, take, refl, sym, arith}
+use Rattle.std.proofs.Common.{◌≡◌, ◌∙◌, ◌<◌, List, ap, length, take, refl, sym, arith}
 use Rattle.std.proofs.lemmas.List.{length-map}
 use Rattle.std.proofs.lemmas.Result.{err_from_is_err_and}
 use Rattle.hyper_model.specs.declared.parts.Atom.{Atom}
-use Rattle.plan_text.proofs.Over.{over-all, over-end, over-more}
+use Rattle.plan_text.proofs.Over.{over-end, over-more}
 use Rattle.atom_table.specs.Entries.{atom_names, unit_names}
 use Rattle.preference_rules.specs.Drafts.{Draft}
 use Rattle.preference_rules.specs.Given.{twice_records_refusal, twice_refusal}

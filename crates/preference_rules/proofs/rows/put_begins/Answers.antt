@@ -1,4 +1,4 @@
-use Rattle.std.proofs.Common.{◌∙◌, ◌<◌, false, true, ap, get_or, length, sym, arith}
+use Rattle.std.proofs.Common.{◌∙◌, ◌<◌, false, true, get_or, length, arith}
 use Rattle.std.proofs.lemmas.List.{get_or_default}
 use Rattle.preference_rules.proofs.GivenRows.{begins-more}
 use Rattle.preference_rules.proofs.rows.put_begins.Goals as goal

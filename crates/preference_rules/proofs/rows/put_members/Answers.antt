@@ -1,5 +1,5 @@
-use Rattle.std.proofs.Common.{◌∙◌, ◌≡◌, ◌<◌, ◌≤◌, ap, refl, get_or, length, arith}
-use Rattle.hyper_model.specs.Groups.{GroupLists, list_of, no_row, with_member}
+use Rattle.std.proofs.Common.{◌∙◌, ap, refl, get_or, arith}
+use Rattle.hyper_model.specs.Groups.{GroupLists, no_row, with_member}
 use Rattle.preference_rules.proofs.ListRows.{put-all, put-more}
 use Rattle.preference_rules.proofs.rows.put_members.Goals as goal
 
