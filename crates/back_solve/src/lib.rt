@@ -4,6 +4,8 @@
 ghost use Rattle.back_solve.specs.Laws.{AreWeightsDetermined, DependOnEntries, NextWeightFits, WeightsEnclose, WeightsInRange};
 
 mod solve;
+#[cfg(test)]
+mod tests;
 
 pub use solve::solve_back;
 
