@@ -17,7 +17,6 @@ mod unit_step;
 
 pub use pair_values::PairValues;
 pub use refusal::AtomRefusal;
-pub use sharing::shows_shared;
 pub use table::AtomTable;
 
 /// The most that the call rates of all atoms, or the service rates of all units, may sum to.

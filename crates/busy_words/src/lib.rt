@@ -14,6 +14,5 @@ mod words;
 
 pub use dispatch::{first_free, portion, takers, up};
 pub use orders::Order;
-pub use sharing::shows_shared_order;
 pub use sums::{busy_part, full_part, tail_part, taken_part};
 pub use words::{is_busy, level};

@@ -3,6 +3,6 @@ use crate::Order;
 fn shared<T: Send + Sync>(_value: &T) {}
 
 /// An order can go from one thread to another, and be read by several.
-pub fn shows_shared_order(order: &Order) {
+fn shows_shared_order(order: &Order) {
     shared(order);
 }

@@ -19,4 +19,3 @@ pub use districts::{calls_inside, is_inside};
 pub use flows::found_of;
 pub use fraction_list::fractions;
 pub use part_list::Parts;
-pub use sharing::shows_shared_parts;

@@ -3,6 +3,6 @@ use crate::Parts;
 fn shared<T: Send + Sync>(_value: &T) {}
 
 /// Parts can go from one thread to another, and be read by several.
-pub fn shows_shared_parts(parts: &Parts) {
+fn shows_shared_parts(parts: &Parts) {
     shared(parts);
 }

@@ -26,10 +26,6 @@ pub use name_list::Names;
 pub use parts::{Atom, Atoms, PlanParts, Unit, Units};
 pub use plans::Plan;
 pub use preference::Lists;
-pub use sharing::{
-    shows_shared_measure, shows_shared_names, shows_shared_parts, shows_shared_plan,
-    shows_shared_tables,
-};
 pub use travel_time::mean_thousandths;
 
 /// The most units that a plan has.

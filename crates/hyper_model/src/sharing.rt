@@ -6,20 +6,20 @@ use crate::{
 fn shared<T: Send + Sync>(_value: &T) {}
 
 /// Plans, their parts and what is found of them can go from one thread to another, and be read by several.
-pub fn shows_shared_plan(plan: &Plan, parts: &PlanParts, found: &Enclosures) {
+fn shows_shared_plan(plan: &Plan, parts: &PlanParts, found: &Enclosures) {
     shared(plan);
     shared(parts);
     shared(found);
 }
 
 /// So can a name, and a list of names.
-pub fn shows_shared_names(name: &Name, names: &Names) {
+fn shows_shared_names(name: &Name, names: &Names) {
     shared(name);
     shared(names);
 }
 
 /// So can each part of a plan.
-pub fn shows_shared_parts(unit: &Unit, units: &Units, atom: &Atom, atoms: &Atoms) {
+fn shows_shared_parts(unit: &Unit, units: &Units, atom: &Atom, atoms: &Atoms) {
     shared(unit);
     shared(units);
     shared(atom);
@@ -27,13 +27,13 @@ pub fn shows_shared_parts(unit: &Unit, units: &Units, atom: &Atom, atoms: &Atoms
 }
 
 /// So can its tables and lists.
-pub fn shows_shared_tables(table: &Table, lists: &Lists) {
+fn shows_shared_tables(table: &Table, lists: &Lists) {
     shared(table);
     shared(lists);
 }
 
 /// So can a measure with its ends.
-pub fn shows_shared_measure(measure: &Measure, enclosed: &Enclosed) {
+fn shows_shared_measure(measure: &Measure, enclosed: &Enclosed) {
     shared(measure);
     shared(enclosed);
 }

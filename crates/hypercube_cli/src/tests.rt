@@ -102,7 +102,7 @@ fn refused(refusal: PlanRefusal) -> Outcome {
 #[test]
 fn refuses_a_text_of_one_byte_too_many(rt: HostRuntime) -> Result<(), Fail> {
     let words = words_of(rt.alloc(), &["solve", "a.csv"])?;
-    let text = vec![in rt.alloc(); b'#'; 4_194_306]?;
+    let text = vec![in rt.alloc(); b'#'; 4_194_305]?;
     let texts = shelf_of(rt.alloc(), &text)?;
     let mut shelf = SureShelf::of(&texts, 1 << 20);
     let mut sink = SureSink::of(100);

@@ -17,5 +17,4 @@ mod words;
 pub use chain::{Chain, law_descending};
 pub use gate::{Gate, OpenGate};
 pub use matrix::RateMatrix;
-pub use sharing::shows_shared_matrix;
 pub use words::WordChain;

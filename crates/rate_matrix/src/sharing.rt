@@ -3,7 +3,7 @@ use crate::{OpenGate, RateMatrix};
 fn shared<T: Send + Sync>(_value: &T) {}
 
 /// A matrix and the open gate can go from one thread to another, and be read by several.
-pub fn shows_shared_matrix(matrix: &RateMatrix, gate: &OpenGate) {
+fn shows_shared_matrix(matrix: &RateMatrix, gate: &OpenGate) {
     shared(matrix);
     shared(gate);
 }

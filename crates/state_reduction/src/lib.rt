@@ -16,7 +16,6 @@ pub use elimination::step;
 pub use parts::leaving;
 pub use reduction::{reduce, reduce_packed, reduce_rows};
 pub use row::Row;
-pub use sharing::shows_shared_row;
 
 /// What an elimination leaves holds every solution of the balance equations.
 ///

@@ -3,6 +3,6 @@ use crate::Row;
 fn shared<T: Send + Sync>(_value: &T) {}
 
 /// A row can go from one thread to another, and be read by several.
-pub fn shows_shared_row(row: &Row) {
+fn shows_shared_row(row: &Row) {
     shared(row);
 }

@@ -9,5 +9,4 @@ mod tests;
 mod trips;
 
 pub use refusal::TravelRefusal;
-pub use sharing::shows_shared;
 pub use table::TravelTable;

@@ -3,6 +3,6 @@ use crate::TravelTable;
 fn shared<T: Send + Sync>(_value: &T) {}
 
 /// A table can go from one thread to another, and be read by several.
-pub fn shows_shared(table: &TravelTable) {
+fn shows_shared(table: &TravelTable) {
     shared(table);
 }

@@ -13,4 +13,3 @@ mod tests;
 pub use locations::Locations;
 pub use mean_time::mean_thousandths;
 pub use refusal::LocationRefusal;
-pub use sharing::shows_shared;
