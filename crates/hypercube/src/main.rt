@@ -3,6 +3,7 @@
 
 use hypercube_cli::{Outcome, hypercube, status};
 use outer_world::{FileShelf, StdoutSink};
+use rate_matrix::OpenGate;
 use std::alloc::AllocError;
 use std::env;
 use std::process::ExitCode;
@@ -23,7 +24,7 @@ fn main(rt: HostRuntime) -> ExitCode {
         Ok(words) => {
             let mut shelf = FileShelf::of(&rt);
             let mut sink = StdoutSink::of(&rt);
-            hypercube(&rt, rt.alloc(), &words, &mut shelf, &mut sink)
+            hypercube(&rt, rt.alloc(), &words, &mut shelf, &mut sink, &OpenGate)
         }
         Err(_) => Outcome::NoMemory,
     };

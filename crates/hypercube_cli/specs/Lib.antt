@@ -1,8 +1,8 @@
-pub mod Command
-pub mod FirstForm
-pub mod FirstReport
 pub mod Outcomes
-pub mod Refusals
+pub mod Lines
+pub mod Endings
+pub mod Readings
+pub mod Solving
+pub mod Making
 pub mod Runs
 pub mod Untouched
-pub mod OneUnit

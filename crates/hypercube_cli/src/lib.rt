@@ -1,16 +1,17 @@
 //! The command line: words in, one outcome and one text out.
 #![tactic(auto)]
 
-mod answers;
-mod first_form;
-mod first_report;
+mod answer;
+mod lines;
+mod making;
 mod outcome;
-mod refusals;
+mod reading;
+mod solving;
+mod stop;
 #[cfg(test)]
 mod tests;
 mod top;
-mod words;
 
+pub use command_words::{Command, Name255, WordsEnd, read_words};
 pub use outcome::{Outcome, Refusal, status};
-pub use refusals::PlanRefusal;
 pub use top::hypercube;

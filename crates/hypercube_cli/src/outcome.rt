@@ -1,13 +1,17 @@
 ghost use Rattle.std.specs.Prelude.{◌≡◌};
 ghost use Rattle.hypercube_cli.specs.Outcomes.{status_of};
 
-use crate::PlanRefusal;
+use hyper_model::Measure;
+use plan_maker::MakeRefusal;
+use plan_reader::PlanRefusal;
 
-/// A text that was refused, and why. It is never for want of memory.
+/// What was refused, and why. It is never for want of memory.
 #[derive(Clone, Copy, Debug, PartialEq, Eq)]
 pub enum Refusal {
     /// The plan at this place: 1 for the plan that is solved.
     Plan(u32, PlanRefusal),
+    /// The plan that was to be made.
+    Make(MakeRefusal),
 }
 
 /// How a run ended.
@@ -19,7 +23,10 @@ pub enum Outcome {
     Usage,
     /// A text was refused, and the line that says so was written.
     Refused(Refusal),
-    /// There is no text of the name that the words ask for, and nothing was written.
+    /// Of the plan at this place, this measure has a low and a high end, in units of its last printed digit, that lie
+    /// further apart than was asked, and the line that says so was written.
+    TooWide(u32, Measure, u64, u64),
+    /// There is no text of the name that the command asks for at this place, and nothing was written.
     Absent(u32),
     /// A text was not read, for a fault, and nothing was written.
     ReadFault,
@@ -37,6 +44,7 @@ pub fn status(outcome: &Outcome) -> u8
         Outcome::Done => 0,
         Outcome::Usage => 1,
         Outcome::Refused(_) => 2,
+        Outcome::TooWide(_, _, _, _) => 3,
         Outcome::Absent(_) => 4,
         Outcome::ReadFault => 5,
         Outcome::WriteFault => 6,

@@ -1,0 +1,29 @@
+-- How a run ends where nothing outside fails: its outcome, and all that it writes.
+use Rattle.std.specs.Prelude.{ℕ, List, []}
+use Rattle.hyper_model.specs.declared.kinds.Measure.{Measure}
+use Rattle.hyper_model.specs.declared.parts.PlanParts.{PlanParts}
+use Rattle.hypercube_cli.specs.declared.outcome.Outcome.{Outcome}
+use Rattle.hypercube_cli.specs.declared.outcome.Outcome.TheVariants as outcome
+use Rattle.hypercube_cli.specs.declared.outcome.Refusal.{Refusal}
+use Rattle.hypercube_cli.specs.Lines.{refusal_line, usage_line, wide_line}
+
+pub record Ending : Type 0 where
+  pub outcome : Outcome
+  pub text : List ℕ
+
+abbrev pub usage_ending : Ending
+usage_ending = record { outcome = outcome.Usage; text = usage_line }
+
+-- the text of the command
+abbrev pub done_ending : List ℕ → Ending
+done_ending text = record { outcome = outcome.Done; text = text }
+
+-- no text has the name that is asked at this place
+abbrev pub absent_ending : ℕ → Ending
+absent_ending place = record { outcome = outcome.Absent place; text = [] }
+
+abbrev pub refused_ending : Refusal → Ending
+refused_ending r = record { outcome = outcome.Refused r; text = refusal_line r }
+
+abbrev pub wide_ending : PlanParts → ℕ → Measure → ℕ → ℕ → Ending
+wide_ending p place m lo hi = record { outcome = outcome.TooWide place m lo hi; text = wide_line p place m lo hi }
