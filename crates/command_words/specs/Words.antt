@@ -61,31 +61,31 @@ may_end (place.Value k) = false
 may_end p = true
 
 -- plain words, and options, each in the order in which they stand
-pub record Line : Type 0 where
+pub record CommandLine : Type 0 where
   pub plain : List (List ℕ)
   pub options : List Given
 
-abbrev pub joined : Line → Line → Line
+abbrev pub joined : CommandLine → CommandLine → CommandLine
 joined first second = record { plain = first.plain ++ second.plain; options = first.options ++ second.options }
 
 -- what a word adds to its line
-abbrev pub word_line : Word → List ℕ → Line
+abbrev pub word_line : Word → List ℕ → CommandLine
 word_line word.Plain text = record { plain = text ∷ []; options = [] }
 word_line (word.Option g) text = record { plain = []; options = g ∷ [] }
 word_line w text = record { plain = []; options = [] }
 
 -- what words say from a place on: the first word is read there, the others from the place behind it
-unfoldable pub line_from : Place → List (List ℕ) → Option Line
+unfoldable pub line_from : Place → List (List ℕ) → Option CommandLine
 line_from p [] = if may_end p then Some (record { plain = []; options = [] }) else None
 line_from p (text ∷ texts) = do
   w ← word_at p text
   line ← line_from (place_behind p w) texts
   Some (joined (word_line w text) line)
 
-abbrev pub line_of : List (List ℕ) → Option Line
+abbrev pub line_of : List (List ℕ) → Option CommandLine
 line_of words = line_from place.Free words
 
-abbrev pub line_in : Said → Line
+abbrev pub line_in : Said → CommandLine
 line_in said = record { plain = map (λ text. text.now) said.plain.items; options = said.options.items }
 
 -- the words were read so, or there was no memory
