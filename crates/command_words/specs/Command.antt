@@ -3,7 +3,7 @@ use Rattle.std.specs.Prelude.{◌≡◌, ℕ, Bool, ◌&&◌, if◌then◌else�
 use Rattle.std.specs.Str.{bytes_eq}
 use Rattle.command_words.specs.Numbers.{number_in}
 use Rattle.command_words.specs.Options.{◌>>=◌, AreWorkers, options_of}
-use Rattle.command_words.specs.Words.{CommandLine, line_of}
+use Rattle.command_words.specs.Words.{line_of}
 use Rattle.command_words.specs.declared.command.Command.{Command}
 use Rattle.command_words.specs.declared.command.Command.TheVariants.{Solve, Compare, Make}
 use Rattle.command_words.specs.declared.command.WordsEnd.{WordsEnd}
