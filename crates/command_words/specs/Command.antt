@@ -50,6 +50,7 @@ with_plain (verb ∷ names) given =
     else if bytes_eq verb (codes "make") then make_of names given
     else None
 
+-- the command that words give, if they give one
 abbrev pub command : List (List ℕ) → Option Command
 command words = line_of words >>= λ line. with_plain line.plain line.options
 

@@ -1,5 +1,5 @@
 -- What each word is at its place, and the plain words and options of a command line.
-use Rattle.std.specs.Prelude.{◌≡◌, ℕ, Bool, true, false, if◌then◌else◌, List, [], ◌∷◌, ◌++◌, drop, eqb, map, Option, Some, None, Result, Ok, Err, codes}
+use Rattle.std.specs.Prelude.{◌≡◌, ℕ, Bool, true, false, if◌then◌else◌, List, [], ◌∷◌, ◌++◌, length, drop, eqb, map, Option, Some, None, Result, Ok, Err, codes}
 use Rattle.std.specs.List.{starts_with}
 use Rattle.std.specs.Option.{option_map}
 use Rattle.std.specs.Str.{bytes_eq}
@@ -19,6 +19,9 @@ use Rattle.command_words.specs.declared.word.Word.TheVariants as word
 abbrev pub begins : List ℕ → List ℕ → Bool
 begins begin text = starts_with eqb text begin
 
+abbrev pub rest_behind : List ℕ → List ℕ → List ℕ
+rest_behind begin text = drop (length begin) text
+
 -- an option and its value
 abbrev pub option_word : Key → List ℕ → Option Word
 option_word k value = option_map word.Option (given_by k value)
@@ -26,9 +29,9 @@ option_word k value = option_map word.Option (given_by k value)
 -- a word that is no name: an option, `=` and its value, or a plain word, which begins with no dash
 unfoldable pub long_word : List ℕ → Option Word
 long_word text =
-    if begins (codes "--width=") text then option_word key.Width (drop 8 text)
-    else if begins (codes "--time-width=") text then option_word key.TimeWidth (drop 13 text)
-    else if begins (codes "--workers=") text then option_word key.Workers (drop 10 text)
+    if begins (codes "--width=") text then option_word key.Width (rest_behind (codes "--width=") text)
+    else if begins (codes "--time-width=") text then option_word key.TimeWidth (rest_behind (codes "--time-width=") text)
+    else if begins (codes "--workers=") text then option_word key.Workers (rest_behind (codes "--workers=") text)
     else if begins (codes "-") text then None
     else Some word.Plain
 
