@@ -1,5 +1,5 @@
 -- Command lines and what they mean, computed.
-use Rattle.std.proofs.Common.{◌≡◌, ℕ, List, [], ◌∷◌, refl}
+use Rattle.std.proofs.Common.{◌≡◌, ℕ, [], ◌∷◌, refl}
 use Rattle.std.specs.Prelude.{true, false, Option, Some, None, codes}
 use Rattle.report_text.specs.declared.ending.Widths.{Widths}
 use Rattle.command_words.specs.Command.{command, compare_of, make_of, solve_of}

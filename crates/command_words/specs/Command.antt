@@ -2,8 +2,8 @@
 use Rattle.std.specs.Prelude.{◌≡◌, ℕ, Bool, ◌&&◌, if◌then◌else◌, List, [], ◌∷◌, length, nat_le, Option, Some, None, Result, Ok, Err, codes}
 use Rattle.std.specs.Str.{bytes_eq}
 use Rattle.command_words.specs.Numbers.{number_in}
-use Rattle.command_words.specs.Options.{◌>>=◌, options_of}
-use Rattle.command_words.specs.Words.{Line, line_of}
+use Rattle.command_words.specs.Options.{◌>>=◌, AreWorkers, options_of}
+use Rattle.command_words.specs.Words.{line_of}
 use Rattle.command_words.specs.declared.command.Command.{Command}
 use Rattle.command_words.specs.declared.command.Command.TheVariants.{Solve, Compare, Make}
 use Rattle.command_words.specs.declared.command.WordsEnd.{WordsEnd}
@@ -16,10 +16,6 @@ has_name_length text = nat_le 1 (length text) && nat_le (length text) 255
 
 abbrev pub name_in : List ℕ → Option (List ℕ)
 name_in text = if has_name_length text then Some text else None
-
--- 1 to 18 digits
-abbrev pub whole_number_in : List ℕ → Option ℕ
-whole_number_in text = number_in 18 0 999999999999999999 text
 
 -- one file, and all options may be given
 unfoldable pub solve_of : List (List ℕ) → List Given → Option Command
@@ -37,11 +33,11 @@ compare_of (study ∷ []) given = do
   if options.summary then None else Some (Compare name options.widths options.workers)
 compare_of names given = None
 
--- two numbers, and no option
+-- two numbers of 1 to 18 digits, and no option
 unfoldable pub make_of : List (List ℕ) → List Given → Option Command
 make_of (units ∷ number ∷ []) [] = do
-  u ← whole_number_in units
-  n ← whole_number_in number
+  u ← number_in 18 units
+  n ← number_in 18 number
   Some (Make u n)
 make_of numbers given = None
 
@@ -54,6 +50,7 @@ with_plain (verb ∷ names) given =
     else if bytes_eq verb (codes "make") then make_of names given
     else None
 
+-- the command that words give, if they give one
 abbrev pub command : List (List ℕ) → Option Command
 command words = line_of words >>= λ line. with_plain line.plain line.options
 
@@ -62,3 +59,9 @@ abbrev pub Gives : {A : Type 0} → Option A → Result A WordsEnd → Type 0
 Gives given (Ok found) = given ≡ Some found
 Gives given (Err end.NoCommand) = given ≡ None
 Gives given (Err end.NoMemory) = Unit {0}
+
+-- where the work is shared, it is by 1 to 16 workers
+abbrev pub WorkersInRange : Command → Type 0
+WorkersInRange (Solve file widths workers summary) = AreWorkers workers
+WorkersInRange (Compare study widths workers) = AreWorkers workers
+WorkersInRange (Make units number) = Unit {0}

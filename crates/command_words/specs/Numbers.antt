@@ -8,10 +8,6 @@ use Rattle.std.specs.Str.Parse.{digits_value}
 abbrev pub is_number : ℕ → List ℕ → Bool
 is_number most_digits text = nat_le 1 (length text) && nat_le (length text) most_digits && list_all is_ascii_digit text
 
-abbrev pub is_within : ℕ → ℕ → ℕ → Bool
-is_within least most value = nat_le least value && nat_le value most
-
--- the number that the text says, where it is one in range
-abbrev pub number_in : ℕ → ℕ → ℕ → List ℕ → Option ℕ
-number_in most_digits least most text =
-    if is_number most_digits text && is_within least most (digits_value 10 text) then Some (digits_value 10 text) else None
+-- the number that the text is, if it is one
+abbrev pub number_in : ℕ → List ℕ → Option ℕ
+number_in most_digits text = if is_number most_digits text then Some (digits_value 10 text) else None

@@ -1,8 +1,7 @@
--- The options: what their values say, and what they ask for where each is given at most once.
-use Rattle.std.specs.Prelude.{ℕ, Bool, true, false, if◌then◌else◌, ◌==◌, nat_le, List, [], ◌∷◌, Option, Some, None, option_and_then, count_by}
+-- The options: what their values are, and what they ask for together.
+use Rattle.std.specs.Prelude.{ℕ, ◌≤◌, Bool, true, false, ◌&&◌, if◌then◌else◌, ◌==◌, nat_le, List, [], ◌∷◌, Option, Some, None, option_and_then, count_by}
 use Rattle.std.specs.List.{filter_map}
 use Rattle.std.specs.Option.{option_map, unwrap_or}
-use Rattle.report_text.specs.declared.ending.Widths.{Widths}
 use Rattle.command_words.specs.Numbers.{number_in}
 use Rattle.command_words.specs.declared.options.Given.{Given}
 use Rattle.command_words.specs.declared.options.Given.TheVariants as given
@@ -15,18 +14,14 @@ infixl 10 ◌>>=◌
 abbrev pub ◌>>=◌ : {A B : Type 0} → Option A → (A → Option B) → Option B
 found >>= next = option_and_then next found
 
--- a width has one to nine digits
-abbrev pub width_of : List ℕ → Option ℕ
-width_of value = number_in 9 2 999999999 value
+abbrev pub with_number : Key → ℕ → Given
+with_number key.Width number = given.Width number
+with_number key.TimeWidth number = given.TimeWidth number
+with_number key.Workers number = given.Workers number
 
-abbrev pub workers_of : List ℕ → Option ℕ
-workers_of value = number_in 9 1 16 value
-
--- the option with this value
+-- the option with this value, which has one to nine digits
 abbrev pub given_by : Key → List ℕ → Option Given
-given_by key.Width value = option_map given.Width (width_of value)
-given_by key.TimeWidth value = option_map given.TimeWidth (width_of value)
-given_by key.Workers value = option_map given.Workers (workers_of value)
+given_by k value = option_map (with_number k) (number_in 9 value)
 
 -- the number given to this option, where it is this option
 abbrev pub number_of : Key → Given → Option ℕ
@@ -53,11 +48,30 @@ abbrev pub summary_once : List Given → Option Bool
 summary_once options =
     let count = count_by is_summary options in if nat_le count 1 then Some (count == 1) else None
 
--- one worker, where no number of workers is given
+-- a width, where one is asked for, is at least 2
+abbrev pub may_be_width : Option ℕ → Bool
+may_be_width None = true
+may_be_width (Some width) = nat_le 2 width
+
+abbrev pub are_workers : ℕ → Bool
+are_workers workers = nat_le 1 workers && nat_le workers 16
+
+pub record AreWorkers (workers : ℕ) : Type 0 where
+  pub least : 1 ≤ workers
+  pub most : workers ≤ 16
+
+abbrev pub are_possible : Options → Bool
+are_possible options =
+    may_be_width options.widths.share && may_be_width options.widths.time && are_workers options.workers
+
+abbrev pub if_possible : Options → Option Options
+if_possible options = if are_possible options then Some options else None
+
+-- each option is given at most once, and there is one worker where no number of workers is given
 unfoldable pub options_of : List Given → Option Options
 options_of options = do
   share ← number_once key.Width options
   time ← number_once key.TimeWidth options
   workers ← number_once key.Workers options
   summary ← summary_once options
-  Some (record { widths = record { share = share; time = time }; workers = unwrap_or workers 1; summary = summary })
+  if_possible (record { widths = record { share = share; time = time }; workers = unwrap_or workers 1; summary = summary })

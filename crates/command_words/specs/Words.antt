@@ -1,5 +1,5 @@
 -- What each word is at its place, and the plain words and options of a command line.
-use Rattle.std.specs.Prelude.{◌≡◌, ℕ, Bool, true, false, if◌then◌else◌, List, [], ◌∷◌, ◌++◌, drop, eqb, map, Option, Some, None, Result, Ok, Err, codes}
+use Rattle.std.specs.Prelude.{◌≡◌, ℕ, Bool, true, false, if◌then◌else◌, List, [], ◌∷◌, ◌++◌, length, drop, eqb, map, Option, Some, None, Result, Ok, Err, codes}
 use Rattle.std.specs.List.{starts_with}
 use Rattle.std.specs.Option.{option_map}
 use Rattle.std.specs.Str.{bytes_eq}
@@ -19,6 +19,9 @@ use Rattle.command_words.specs.declared.word.Word.TheVariants as word
 abbrev pub begins : List ℕ → List ℕ → Bool
 begins begin text = starts_with eqb text begin
 
+abbrev pub rest_behind : List ℕ → List ℕ → List ℕ
+rest_behind begin text = drop (length begin) text
+
 -- an option and its value
 abbrev pub option_word : Key → List ℕ → Option Word
 option_word k value = option_map word.Option (given_by k value)
@@ -26,9 +29,9 @@ option_word k value = option_map word.Option (given_by k value)
 -- a word that is no name: an option, `=` and its value, or a plain word, which begins with no dash
 unfoldable pub long_word : List ℕ → Option Word
 long_word text =
-    if begins (codes "--width=") text then option_word key.Width (drop 8 text)
-    else if begins (codes "--time-width=") text then option_word key.TimeWidth (drop 13 text)
-    else if begins (codes "--workers=") text then option_word key.Workers (drop 10 text)
+    if begins (codes "--width=") text then option_word key.Width (rest_behind (codes "--width=") text)
+    else if begins (codes "--time-width=") text then option_word key.TimeWidth (rest_behind (codes "--time-width=") text)
+    else if begins (codes "--workers=") text then option_word key.Workers (rest_behind (codes "--workers=") text)
     else if begins (codes "-") text then None
     else Some word.Plain
 
@@ -61,31 +64,31 @@ may_end (place.Value k) = false
 may_end p = true
 
 -- plain words, and options, each in the order in which they stand
-pub record Line : Type 0 where
+pub record CommandLine : Type 0 where
   pub plain : List (List ℕ)
   pub options : List Given
 
-abbrev pub joined : Line → Line → Line
+abbrev pub joined : CommandLine → CommandLine → CommandLine
 joined first second = record { plain = first.plain ++ second.plain; options = first.options ++ second.options }
 
 -- what a word adds to its line
-abbrev pub word_line : Word → List ℕ → Line
+abbrev pub word_line : Word → List ℕ → CommandLine
 word_line word.Plain text = record { plain = text ∷ []; options = [] }
 word_line (word.Option g) text = record { plain = []; options = g ∷ [] }
 word_line w text = record { plain = []; options = [] }
 
 -- what words say from a place on: the first word is read there, the others from the place behind it
-unfoldable pub line_from : Place → List (List ℕ) → Option Line
+unfoldable pub line_from : Place → List (List ℕ) → Option CommandLine
 line_from p [] = if may_end p then Some (record { plain = []; options = [] }) else None
 line_from p (text ∷ texts) = do
   w ← word_at p text
   line ← line_from (place_behind p w) texts
   Some (joined (word_line w text) line)
 
-abbrev pub line_of : List (List ℕ) → Option Line
+abbrev pub line_of : List (List ℕ) → Option CommandLine
 line_of words = line_from place.Free words
 
-abbrev pub line_in : Said → Line
+abbrev pub line_in : Said → CommandLine
 line_in said = record { plain = map (λ text. text.now) said.plain.items; options = said.options.items }
 
 -- the words were read so, or there was no memory

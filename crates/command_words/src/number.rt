@@ -1,18 +1,19 @@
-ghost use Rattle.std.specs.Prelude.{◌≡◌, ◌≤◌};
+ghost use Rattle.std.specs.Prelude.{◌≡◌, ◌<◌, ◌≤◌, ◌^◌, IfSome};
 ghost use Rattle.std.specs.Char.{is_ascii_digit};
 ghost use Rattle.std.specs.List.{list_all};
 ghost use Rattle.command_words.specs.Numbers.{number_in};
 
-/// The number from `least` to `most` that a text of at most so many decimal digits says. Leading zeros count as digits.
-pub(crate) fn number_of(text: &str, most_digits: usize, least: u64, most: u64) -> Option<u64>
+/// The number that a text is, if it is one digit or more and at most so many. Leading zeros count as digits.
+pub(crate) fn number_of(text: &str, most_digits: usize) -> Option<u64>
     requires { most_digits ≤ 18 }
-    ensures { result ≡ number_in most_digits least most text.now }
+    ensures number { result ≡ number_in most_digits text.now }
+    ensures below { IfSome result (λ number. number < 10 ^ most_digits) }
 {
     if text.is_empty() || text.len() > most_digits || !are_digits(text) {
         return None;
     }
     match text.parse::<u64>() {
-        Ok(value) => (least <= value && value <= most).then_some(value),
+        Ok(number) => Some(number),
         Err(_) => None,
     }
 }

@@ -1,10 +1,19 @@
-ghost use Rattle.std.specs.Prelude.{◌≡◌, ◌++◌};
+ghost use Rattle.std.specs.Prelude.{◌≡◌, ◌++◌, IsTrue, IfSome};
 ghost use Rattle.std.specs.Option.{option_to_list};
 ghost use Rattle.command_words.specs.Options as spec;
-ghost use Rattle.command_words.specs.Options.{once};
+ghost use Rattle.command_words.specs.Options.{AreWorkers, once};
 
 use crate::number::number_of;
 use report_text::Widths;
+
+/// The most digits that an option's value has.
+const MOST_VALUE_DIGITS: usize = 9;
+
+/// The least width that can be asked for, since the ends of an interval are rounded outward.
+const LEAST_WIDTH: u32 = 2;
+
+/// The most workers.
+const MOST_WORKERS: u32 = 16;
 
 /// An option that has a value.
 #[derive(Clone, Copy, Debug, PartialEq, Eq)]
@@ -32,33 +41,16 @@ pub(crate) struct Options {
 }
 
 impl Key {
-    /// The option with this value.
+    /// The option with this value, which is a number of one to nine digits.
     pub fn given(self, value: &str) -> Option<Given>
         ensures { result ≡ spec.given_by self value.now }
     {
-        match self {
-            Key::Width => Some(Given::Width(width_of(value)?)),
-            Key::TimeWidth => Some(Given::TimeWidth(width_of(value)?)),
-            Key::Workers => Some(Given::Workers(workers_of(value)?)),
-        }
-    }
-}
-
-fn width_of(value: &str) -> Option<u32>
-    ensures { result ≡ spec.width_of value.now }
-{
-    match number_of(value, 9, 2, 999_999_999) {
-        Some(width) => Some(width as u32),
-        None => None,
-    }
-}
-
-fn workers_of(value: &str) -> Option<u32>
-    ensures { result ≡ spec.workers_of value.now }
-{
-    match number_of(value, 9, 1, 16) {
-        Some(workers) => Some(workers as u32),
-        None => None,
+        let number = number_of(value, MOST_VALUE_DIGITS)? as u32;
+        Some(match self {
+            Key::Width => Given::Width(number),
+            Key::TimeWidth => Given::TimeWidth(number),
+            Key::Workers => Given::Workers(number),
+        })
     }
 }
 
@@ -76,20 +68,40 @@ impl Given {
     }
 }
 
+/// What the given options ask for: nothing where one of them is given twice, or asks for what cannot be.
 #[tactic(auto, unfolding(crate::specs::Options::options_of))]
-/// What the given options ask for: nothing where one of them is given twice.
 pub(crate) fn options_of(given: &[Given]) -> Option<Options>
-    ensures { result ≡ spec.options_of given.now }
+    ensures options { result ≡ spec.options_of given.now }
+    ensures workers { IfSome result (λ options. AreWorkers options.workers) }
 {
     let share = number_once(given, Key::Width)?;
     let time = number_once(given, Key::TimeWidth)?;
-    let workers = number_once(given, Key::Workers)?;
+    let workers = number_once(given, Key::Workers)?.unwrap_or(1);
     let summary = summary_once(given)?;
+    if !may_be_width(share) || !may_be_width(time) || !are_workers(workers) {
+        return None;
+    }
     Some(Options {
         widths: Widths { share, time },
-        workers: workers.unwrap_or(1),
+        workers,
         summary,
     })
+}
+
+fn may_be_width(width: Option<u32>) -> bool
+    ensures { result ≡ spec.may_be_width width }
+{
+    match width {
+        Some(width) => width >= LEAST_WIDTH,
+        None => true,
+    }
+}
+
+fn are_workers(workers: u32) -> bool
+    ensures workers { result ≡ spec.are_workers workers }
+    ensures in_range { IsTrue result → AreWorkers workers }
+{
+    1 <= workers && workers <= MOST_WORKERS
 }
 
 fn number_once(given: &[Given], key: Key) -> Option<Option<u32>>

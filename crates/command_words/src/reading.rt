@@ -1,7 +1,7 @@
 ghost use Rattle.std.specs.Prelude.{◌≡◌, map, Some, None, IfOk};
 ghost use Rattle.std.specs.Result.{IsErrOf};
 ghost use Rattle.std.specs.String.{string_bytes};
-ghost use Rattle.command_words.specs.Command.{command, compare_of, Gives, make_of, name_in, solve_of, whole_number_in, with_plain};
+ghost use Rattle.command_words.specs.Command.{command, compare_of, Gives, make_of, name_in, solve_of, with_plain, WorkersInRange};
 
 use crate::name::MOST_FILE_NAME_BYTES;
 use crate::number::number_of;
@@ -10,17 +10,22 @@ use crate::said::read_said;
 use crate::{Command, Name255, WordsEnd};
 use std::alloc::Global;
 
+/// The most digits of the number of units and of the number that a plan is made from.
+const MOST_MAKE_DIGITS: usize = 18;
+
 /// The command that these words behind the program's name give.
 pub fn read_words(alloc: Global, words: &[String]) -> Result<Command, WordsEnd>
     ensures read { IfOk result (λ c. command (map string_bytes words.now) ≡ Some c) }
     ensures no_command { IsErrOf result WordsEnd.NoCommand → command (map string_bytes words.now) ≡ None }
+    ensures workers { IfOk result WorkersInRange }
 {
     let said = read_said(alloc, words)?;
     command_of(alloc, &said.plain, &said.options)
 }
 
 fn command_of(alloc: Global, plain: &[&str], given: &[Given]) -> Result<Command, WordsEnd>
-    ensures { Gives (with_plain (map (λ word. word.now) plain.now) given.now) result }
+    ensures given { Gives (with_plain (map (λ word. word.now) plain.now) given.now) result }
+    ensures workers { IfOk result WorkersInRange }
 {
     let [verb, names @ ..] = plain else {
         return Err(WordsEnd::NoCommand)
@@ -35,7 +40,8 @@ fn command_of(alloc: Global, plain: &[&str], given: &[Given]) -> Result<Command,
 
 #[tactic(auto, unfolding(crate::specs::Command::solve_of))]
 fn solve(alloc: Global, names: &[&str], given: &[Given]) -> Result<Command, WordsEnd>
-    ensures { Gives (solve_of (map (λ name. name.now) names.now) given.now) result }
+    ensures given { Gives (solve_of (map (λ name. name.now) names.now) given.now) result }
+    ensures workers { IfOk result WorkersInRange }
 {
     let [file] = names else {
         return Err(WordsEnd::NoCommand)
@@ -53,7 +59,8 @@ fn solve(alloc: Global, names: &[&str], given: &[Given]) -> Result<Command, Word
 
 #[tactic(auto, unfolding(crate::specs::Command::compare_of))]
 fn compare(alloc: Global, names: &[&str], given: &[Given]) -> Result<Command, WordsEnd>
-    ensures { Gives (compare_of (map (λ name. name.now) names.now) given.now) result }
+    ensures given { Gives (compare_of (map (λ name. name.now) names.now) given.now) result }
+    ensures workers { IfOk result WorkersInRange }
 {
     let [study] = names else {
         return Err(WordsEnd::NoCommand)
@@ -73,7 +80,8 @@ fn compare(alloc: Global, names: &[&str], given: &[Given]) -> Result<Command, Wo
 
 #[tactic(auto, unfolding(crate::specs::Command::make_of))]
 fn make(numbers: &[&str], given: &[Given]) -> Result<Command, WordsEnd>
-    ensures { Gives (make_of (map (λ number. number.now) numbers.now) given.now) result }
+    ensures given { Gives (make_of (map (λ number. number.now) numbers.now) given.now) result }
+    ensures workers { IfOk result WorkersInRange }
 {
     let [units, number] = numbers else {
         return Err(WordsEnd::NoCommand)
@@ -81,10 +89,10 @@ fn make(numbers: &[&str], given: &[Given]) -> Result<Command, WordsEnd>
     if !given.is_empty() {
         return Err(WordsEnd::NoCommand);
     }
-    let Some(units) = whole_number(units) else {
+    let Some(units) = number_of(units, MOST_MAKE_DIGITS) else {
         return Err(WordsEnd::NoCommand)
     };
-    let Some(number) = whole_number(number) else {
+    let Some(number) = number_of(number, MOST_MAKE_DIGITS) else {
         return Err(WordsEnd::NoCommand)
     };
     Ok(Command::Make { units, number })
@@ -100,10 +108,4 @@ fn read_name(alloc: Global, text: &str) -> Result<Name255, WordsEnd>
         Ok(name) => Ok(name),
         Err(_) => Err(WordsEnd::NoMemory),
     }
-}
-
-fn whole_number(text: &str) -> Option<u64>
-    ensures { result ≡ whole_number_in text.now }
-{
-    number_of(text, 18, 0, 999_999_999_999_999_999)
 }

@@ -1,4 +1,4 @@
-ghost use Rattle.std.specs.Prelude.{◌≡◌, true, false, drop, length, MatchOption};
+ghost use Rattle.std.specs.Prelude.{◌≡◌, true, false, MatchOption};
 ghost use Rattle.command_words.specs.Words as spec;
 ghost use Rattle.command_words.specs.Words.{begins};
 
@@ -102,7 +102,7 @@ fn option_word(key: Key, value: &str) -> Option<Word>
 fn rest_behind<'a>(begin: &str, text: &'a str) -> Option<&'a str>
     ensures { MatchOption result
         (begins begin.now text.now ≡ false)
-        (λ rest. (begins begin.now text.now ≡ true) × (rest.now ≡ drop (length begin.now) text.now)) }
+        (λ rest. (begins begin.now text.now ≡ true) × (rest.now ≡ spec.rest_behind begin.now text.now)) }
 {
     text.strip_prefix(begin)
 }

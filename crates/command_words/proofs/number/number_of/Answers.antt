@@ -13,6 +13,14 @@ list_all-digits : (bytes : List ℕ) → list_all is_ascii_digit bytes ≡ all_a
 list_all-digits [] = refl
 list_all-digits (byte ∷ bytes) = ap (λ rest. is_ascii_digit byte && rest) (list_all-digits bytes)
 
+pub returns-in-Ok-clause-below : goal.returns-in-Ok-clause-below
+returns-in-Ok-clause-below c =
+    let text = c.args.text.now in
+    let digits : all_ascii_digits text ≡ true = sym (list_all-digits text) ∙ search rules in
+    let small : digits_value 10 text < 10 ^ c.args.most_digits =
+    digits_value_short numerals text c.args.most_digits digits (omega arith) in
+    search rules
+
 -- eighteen digits are below the most that a u64 holds
 pub returns-in-Err : goal.returns-in-Err
 returns-in-Err c =

@@ -1,4 +1,4 @@
-use Rattle.std.proofs.Common.{◌≡◌, ◌<◌, ◌∙◌, length, sym, arith}
+use Rattle.std.proofs.Common.{◌∙◌, sym, arith}
 use Rattle.command_words.specs.Options as spec
 use Rattle.command_words.specs.declared.options.Given.TheVariants.{Width}
 use Rattle.command_words.proofs.Once.{once-more, once-twice}
