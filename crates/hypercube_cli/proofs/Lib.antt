@@ -1,3 +1,4 @@
 -- lemmas, each file on one subject
 pub mod ReadPlans
+pub mod WideMeasures
 pub mod Endings

@@ -78,6 +78,13 @@ IsWritten (outcome.Refused r) = Prim.Unit {0}
 IsWritten (outcome.TooWide place m lo hi) = Prim.Unit {0}
 IsWritten o = ⊥
 
+-- the words are no command, or ask for a comparison, which is not there yet
+abbrev pub HasNoAnswer : Option Command → Type 0
+HasNoAnswer None = Prim.Unit {0}
+HasNoAnswer (Some (command.Compare study widths workers)) = Prim.Unit {0}
+HasNoAnswer (Some (command.Solve file widths workers summary)) = ⊥
+HasNoAnswer (Some (command.Make units number)) = ⊥
+
 -- the command reads no text
 abbrev pub NeedsNoText : Option Command → Type 0
 NeedsNoText None = Prim.Unit {0}

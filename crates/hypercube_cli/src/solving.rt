@@ -1,4 +1,5 @@
-ghost use Rattle.std.specs.Prelude.{◌≡◌, ◌≤◌, IfOk};
+ghost use Rattle.std.specs.Prelude.{◌≡◌, ◌≢◌, ◌≤◌, IfOk};
+ghost use Rattle.hypercube_cli.specs.Runs.{IsWritten};
 ghost use Rattle.hypercube_cli.specs.Solving.{IsReported, IsProvedReport};
 
 use crate::Outcome;
@@ -27,6 +28,8 @@ pub(crate) fn solve_answer<R: Threads + Sync, G: Gate + Sync>(
         (record { outcome = answer.outcome; text = answer.text.items })) }
     ensures proved { IfOk result (λ answer. answer.outcome ≡ Outcome.Done
         → IsProvedReport (Ok plan.now) summary answer.text.items) }
+    ensures written { IfOk result (λ answer. IsWritten answer.outcome) }
+    ensures used { IfOk result (λ answer. answer.outcome ≢ Outcome.Usage) }
 {
     let found = enclose_with(rt, alloc, plan, workers, gate, 0)?;
     match report(alloc, plan, &found, widths, summary) {

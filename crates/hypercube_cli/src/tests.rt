@@ -1,8 +1,11 @@
-use crate::{Outcome, PlanRefusal, Refusal, hypercube, status};
-use hyper_model::Name;
+use crate::{Outcome, Refusal, hypercube, status};
+use hyper_model::{Measure, Name};
 use outer_world::{
     Bytes, FileShelf, MemoryShelf, MemorySink, NamedText, StdoutSink, SureShelf, SureSink,
 };
+use plan_maker::MakeRefusal;
+use plan_reader::PlanRefusal;
+use rate_matrix::OpenGate;
 use std::alloc::{AllocError, Global};
 use std::fs;
 use std::test::Fail;
@@ -10,30 +13,21 @@ use std::test::Fail;
 const USAGE: &str =
     "usage: hypercube solve FILE | compare STUDY | make UNITS NUMBER [--width W] [--time-width W] [--workers N] [--summary]\n";
 
-/// A unit that serves two calls for each that comes.
-const HALF_LOAD: &str = "unit,A,2\natom,P,1,0,0,A\ntravel,P,P,300\nat,A,P,1000\nprefer,P,A\n";
-
-const HALF_LOAD_REPORT: &str =
-    "report,1\nline,zero\nunits,1\natoms,1\ncalls,1\nservice,2\nloss,0.333333,0.333334\nworkload,A,0.333333,0.333334\nend\n";
-
-/// 2^52 is not divisible by 3, so the weights are rounded.
+/// A unit that serves three calls for each that comes. 2^52 is not divisible by 3, so the weights are rounded.
 const THIRD_LOAD: &str = "unit,A,3\natom,P,1,0,0,A\ntravel,P,P,300\nat,A,P,1000\nprefer,P,A\n";
 
 const THIRD_LOAD_REPORT: &str =
-    "report,1\nline,zero\nunits,1\natoms,1\ncalls,1\nservice,3\nloss,0.249999,0.250001\nworkload,A,0.249999,0.250001\nend\n";
+    "report,1\nline,zero\nunits,1\natoms,1\ncalls,1\nservice,3\nprefer,P,A\nloss,0.249999,0.250001\nworkload,A,0.249999,0.250001\ndispatch,A,P,1.000000,1.000000\ninterdistrict,0.000000,0.000000\ninterdistrict-unit,A,0.000000,0.000000\ninterdistrict-district,A,0.000000,0.000000\ntravel,300.000,300.000\ntravel-atom,P,300.000,300.000\ntravel-unit,A,300.000,300.000\ntravel-district,A,300.000,300.000\nend\n";
 
-/// Ten calls come for each that is served, so the weights are shifted.
-const OVERLOAD: &str = "unit,A,1\natom,P,10,0,0,A\ntravel,P,P,300\nat,A,P,1000\nprefer,P,A\n";
+const THIRD_LOAD_SUMMARY: &str =
+    "report,1\nline,zero\nunits,1\natoms,1\ncalls,1\nservice,3\nloss,0.249999,0.250001\ninterdistrict,0.000000,0.000000\ntravel,300.000,300.000\nend\n";
 
-const OVERLOAD_REPORT: &str =
-    "report,1\nline,zero\nunits,1\natoms,1\ncalls,10\nservice,1\nloss,0.909090,0.909091\nworkload,A,0.909090,0.909091\nend\n";
-
-fn words_of(alloc: Global, words: &[&str]) -> Result<Vec<String>, AllocError> {
-    let mut all = Vec::new(alloc);
-    for word in words {
-        all.push(String::from_str(alloc, word)?)?;
+fn words_of(alloc: Global, line: &str) -> Result<Vec<String>, AllocError> {
+    let mut words = Vec::new(alloc);
+    for word in line.split(' ') {
+        words.push(String::from_str(alloc, word)?)?;
     }
-    Ok(all)
+    Ok(words)
 }
 
 /// The one text `a.csv`.
@@ -50,44 +44,33 @@ fn shelf_of(alloc: Global, text: &[u8]) -> Result<Vec<NamedText>, AllocError> {
 }
 
 #[test]
-fn answers_each_text(rt: HostRuntime) -> Result<(), Fail> {
-    let cases: [(&str, &str, Outcome, &str, u8); 8] = [
-        ("solve a.csv", HALF_LOAD, Outcome::Done, HALF_LOAD_REPORT, 0),
+fn answers_each_command(rt: HostRuntime) -> Result<(), Fail> {
+    let cases: [(&str, Outcome, &str, u8); 8] = [
+        ("solve a.csv", Outcome::Done, THIRD_LOAD_REPORT, 0),
+        ("--summary solve a.csv --width=2", Outcome::Done, THIRD_LOAD_SUMMARY, 0),
+        ("solve a.csv --workers 3", Outcome::Done, THIRD_LOAD_REPORT, 0),
+        ("solve x.csv", Outcome::Absent(1), "", 4),
+        ("solve", Outcome::Usage, USAGE, 1),
+        ("solve a.csv --width 1", Outcome::Usage, USAGE, 1),
         (
-            "solve a.csv",
-            THIRD_LOAD,
-            Outcome::Done,
-            THIRD_LOAD_REPORT,
-            0,
-        ),
-        ("solve a.csv", OVERLOAD, Outcome::Done, OVERLOAD_REPORT, 0),
-        (
-            "solve a.csv",
-            "",
-            refused(PlanRefusal::NotBuilt(0)),
-            "refused,1,53,0\n",
+            "make 1 0",
+            Outcome::Refused(Refusal::Make(MakeRefusal::MakeRange)),
+            "refused,0,70\n",
             2,
         ),
         (
-            "solve a.csv",
-            "unit,A,2\nunit,B,2\n",
-            refused(PlanRefusal::NotBuilt(2)),
-            "refused,1,53,2\n",
+            "make 2 4294967296",
+            Outcome::Refused(Refusal::Make(MakeRefusal::MakeRange)),
+            "refused,0,70\n",
             2,
         ),
-        ("solve x.csv", HALF_LOAD, Outcome::Absent(1), "", 4),
-        ("solve", HALF_LOAD, Outcome::Usage, USAGE, 1),
-        ("solve a.csv --summary", HALF_LOAD, Outcome::Usage, USAGE, 1),
     ];
-    for (line, text, outcome, written, code) in &cases {
-        let mut parts = Vec::new(rt.alloc());
-        for word in line.split(' ') {
-            parts.push(String::from_str(rt.alloc(), word)?)?;
-        }
-        let texts = shelf_of(rt.alloc(), text.as_bytes())?;
+    for (line, outcome, written, code) in &cases {
+        let words = words_of(rt.alloc(), line)?;
+        let texts = shelf_of(rt.alloc(), THIRD_LOAD.as_bytes())?;
         let mut shelf = SureShelf::of(&texts, 7);
         let mut sink = SureSink::of(11);
-        let got = hypercube(&rt, rt.alloc(), &parts, &mut shelf, &mut sink);
+        let got = hypercube(&rt, rt.alloc(), &words, &mut shelf, &mut sink, &OpenGate);
         assert_eq!(rt; got, *outcome);
         assert_eq!(rt; sink.bytes(), written.as_bytes());
         assert_eq!(rt; status(&got), *code);
@@ -95,57 +78,102 @@ fn answers_each_text(rt: HostRuntime) -> Result<(), Fail> {
     Ok(())
 }
 
-fn refused(refusal: PlanRefusal) -> Outcome {
-    Outcome::Refused(Refusal::Plan(1, refusal))
+#[test]
+fn refuses_texts(rt: HostRuntime) -> Result<(), Fail> {
+    let cases: [(&str, PlanRefusal, &str); 3] = [
+        ("", PlanRefusal::NoUnits, "refused,1,15\n"),
+        ("unit,A,0\n", PlanRefusal::BadNumber(1, 3), "refused,1,5,1,3\n"),
+        (
+            "line,infinite\nunit,A,1\natom,P,1,0,0,A\ntravel,P,P,300\nat,A,P,1000\nprefer,P,A\n",
+            PlanRefusal::NotStable(1, 1),
+            "refused,1,52,1,1\n",
+        ),
+    ];
+    for (text, refusal, written) in &cases {
+        let words = words_of(rt.alloc(), "solve a.csv")?;
+        let texts = shelf_of(rt.alloc(), text.as_bytes())?;
+        let mut shelf = SureShelf::of(&texts, 7);
+        let mut sink = SureSink::of(11);
+        let got = hypercube(&rt, rt.alloc(), &words, &mut shelf, &mut sink, &OpenGate);
+        assert_eq!(rt; got, Outcome::Refused(Refusal::Plan(1, *refusal)));
+        assert_eq!(rt; sink.bytes(), written.as_bytes());
+    }
+    Ok(())
+}
+
+#[test]
+fn tells_what_is_too_wide(rt: HostRuntime) -> Result<(), Fail> {
+    let text = "unit,A,300000\nunit,B,300000\nunit,C,300000\natom,P,1,0,0,A\ntravel,P,P,300\nat,A,P,1000\nat,B,P,1000\nat,C,P,1000\nprefer,P,A,B,C\n";
+    let words = words_of(rt.alloc(), "solve a.csv --time-width 12")?;
+    let texts = shelf_of(rt.alloc(), text.as_bytes())?;
+    let mut shelf = SureShelf::of(&texts, 1000);
+    let mut sink = SureSink::of(1000);
+    let got = hypercube(&rt, rt.alloc(), &words, &mut shelf, &mut sink, &OpenGate);
+    assert_eq!(rt; got, Outcome::TooWide(1, Measure::TravelUnit(2), 299_987, 300_000));
+    assert_eq!(rt; sink.bytes(), b"toowide,1,travel-unit,C,299.987,300.000\n".as_slice());
+    assert_eq!(rt; status(&got), 3);
+    Ok(())
 }
 
 #[test]
 fn refuses_a_text_of_one_byte_too_many(rt: HostRuntime) -> Result<(), Fail> {
-    let words = words_of(rt.alloc(), &["solve", "a.csv"])?;
+    let words = words_of(rt.alloc(), "solve a.csv")?;
     let text = vec![in rt.alloc(); b'#'; 4_194_305]?;
     let texts = shelf_of(rt.alloc(), &text)?;
     let mut shelf = SureShelf::of(&texts, 1 << 20);
     let mut sink = SureSink::of(100);
-    let got = hypercube(&rt, rt.alloc(), &words, &mut shelf, &mut sink);
-    assert_eq!(rt; got, refused(PlanRefusal::TooLong(4_194_305)));
+    let got = hypercube(&rt, rt.alloc(), &words, &mut shelf, &mut sink, &OpenGate);
+    assert_eq!(rt; got, Outcome::Refused(Refusal::Plan(1, PlanRefusal::TooLong(4_194_305))));
     assert_eq!(rt; sink.bytes(), b"refused,1,2,4194305\n".as_slice());
     Ok(())
 }
 
 #[test]
-fn tells_a_fault_of_the_second_read(rt: HostRuntime) -> Result<(), Fail> {
-    let words = words_of(rt.alloc(), &["solve", "a.csv"])?;
-    let texts = shelf_of(rt.alloc(), HALF_LOAD.as_bytes())?;
-    let mut shelf = MemoryShelf::of(&texts, 10, &[3]);
-    let mut sink = SureSink::of(10);
-    let got = hypercube(&rt, rt.alloc(), &words, &mut shelf, &mut sink);
-    assert_eq!(rt; got, Outcome::ReadFault);
-    assert_eq!(rt; sink.bytes(), b"".as_slice());
-    assert_eq!(rt; status(&got), 5);
+fn tells_a_fault_of_each_reading(rt: HostRuntime) -> Result<(), Fail> {
+    for call in 1..11 {
+        let words = words_of(rt.alloc(), "solve a.csv")?;
+        let texts = shelf_of(rt.alloc(), THIRD_LOAD.as_bytes())?;
+        let fails = [call];
+        let mut shelf = MemoryShelf::of(&texts, 10, &fails);
+        let mut sink = SureSink::of(1000);
+        let got = hypercube(&rt, rt.alloc(), &words, &mut shelf, &mut sink, &OpenGate);
+        let (outcome, written) = if call < 10 {
+            (Outcome::ReadFault, "")
+        } else {
+            (Outcome::Done, THIRD_LOAD_REPORT)
+        };
+        assert_eq!(rt; got, outcome);
+        assert_eq!(rt; sink.bytes(), written.as_bytes());
+    }
     Ok(())
 }
 
 #[test]
-fn tells_a_fault_of_the_second_write(rt: HostRuntime) -> Result<(), Fail> {
-    let words = words_of(rt.alloc(), &["solve", "a.csv"])?;
-    let texts = shelf_of(rt.alloc(), HALF_LOAD.as_bytes())?;
-    let mut shelf = SureShelf::of(&texts, 10);
-    let mut sink = MemorySink::of(10, &[2]);
-    let got = hypercube(&rt, rt.alloc(), &words, &mut shelf, &mut sink);
-    assert_eq!(rt; got, Outcome::WriteFault);
-    assert_eq!(rt; sink.bytes(), b"report,1\nl".as_slice());
-    assert_eq!(rt; status(&got), 6);
+fn tells_a_fault_of_each_writing(rt: HostRuntime) -> Result<(), Fail> {
+    for call in 1..6 {
+        let words = words_of(rt.alloc(), "solve a.csv")?;
+        let texts = shelf_of(rt.alloc(), THIRD_LOAD.as_bytes())?;
+        let mut shelf = SureShelf::of(&texts, 1000);
+        let fails = [call];
+        let mut sink = MemorySink::of(100, &fails);
+        let got = hypercube(&rt, rt.alloc(), &words, &mut shelf, &mut sink, &OpenGate);
+        let outcome = if call < 5 { Outcome::WriteFault } else { Outcome::Done };
+        assert_eq!(rt; got, outcome);
+        let taken = THIRD_LOAD_REPORT.len().min(100 * (call as usize - 1));
+        assert_eq!(rt; sink.bytes().len(), taken);
+        assert!(rt; THIRD_LOAD_REPORT.as_bytes().starts_with(sink.bytes()));
+    }
     Ok(())
 }
 
 #[test]
 fn solves_a_real_file(rt: HostRuntime) -> Result<(), Fail> {
-    let file = "/tmp/hypercube-one-unit-plan.csv";
-    fs::write(&rt, file, HALF_LOAD)?;
-    let words = words_of(rt.alloc(), &["solve", file])?;
+    let file = "/tmp/hypercube-third-load-plan.csv";
+    fs::write(&rt, file, THIRD_LOAD)?;
+    let words = words_of(rt.alloc(), "solve /tmp/hypercube-third-load-plan.csv --summary")?;
     let mut shelf = FileShelf::of(&rt);
     let mut sink = StdoutSink::of(&rt);
-    let got = hypercube(&rt, rt.alloc(), &words, &mut shelf, &mut sink);
+    let got = hypercube(&rt, rt.alloc(), &words, &mut shelf, &mut sink, &OpenGate);
     fs::remove_file(&rt, file)?;
     assert_eq!(rt; got, Outcome::Done);
     Ok(())

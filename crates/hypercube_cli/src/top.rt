@@ -1,11 +1,11 @@
-ghost use Rattle.std.specs.Prelude.{◌≡◌, ◌≤◌, ◌⊎◌, ℕ, None, Some, map, IfOk, IfSome};
+ghost use Rattle.std.specs.Prelude.{◌≡◌, ◌≤◌, ℕ, None, Some, map, IfOk, IfSome};
 ghost use Rattle.std.specs.Result.{IsErrOf};
 ghost use Rattle.std.specs.String.{string_bytes};
 ghost use Rattle.std.specs.Io.KnownBytes.{Keeps};
 ghost use Rattle.outer_world.specs.Faults.{Rose};
 ghost use Rattle.command_words.specs.Command.{command as command_of, WorkersInRange};
 ghost use Rattle.hypercube_cli.specs.Endings.{usage_ending};
-ghost use Rattle.hypercube_cli.specs.Runs.{Answers, AsksFor, Finishes, FinishesStopped, IsProved, IsWritten, NeedsNoText, RunsCommand, WritesProved};
+ghost use Rattle.hypercube_cli.specs.Runs.{Answers, AsksFor, Finishes, FinishesStopped, HasNoAnswer, IsProved, IsWritten, NeedsNoText, RunsCommand, WritesProved};
 ghost use Rattle.hypercube_cli.specs.Untouched.{IsUntouched};
 
 use crate::Outcome;
@@ -41,8 +41,8 @@ pub fn hypercube<R: Threads + Sync, S: Shelf, K: Sink, G: Gate + Sync>(
 
     // The causes of each ending that no text can tell of.
     ensures no_command { command_of (map string_bytes words.now) ≡ None →
-        Finishes usage_ending result (K.taken sink.old) (K.taken sink.new) ⊎ (result ≡ Outcome.NoMemory) }
-    ensures usage { result ≡ Outcome.Usage → command_of (map string_bytes words.now) ≡ None }
+        Finishes usage_ending result (K.taken sink.old) (K.taken sink.new) }
+    ensures usage { result ≡ Outcome.Usage → HasNoAnswer (command_of (map string_bytes words.now)) }
     ensures read_fault { result ≡ Outcome.ReadFault → Rose S.last_count (S.faults shelf.old) (S.faults shelf.new)
         × AsksFor (command_of (map string_bytes words.now)) (S.last_fault shelf.new) }
     ensures write_fault { result ≡ Outcome.WriteFault → Rose K.last_count (K.faults sink.old) (K.faults sink.new) }
@@ -77,6 +77,7 @@ fn run<R: Threads + Sync, S: Shelf, K: Sink, G: Gate + Sync>(
         result (K.taken sink.old) (K.taken sink.new)) }
     ensures proved { IfSome (S.told shelf.old) (λ texts. result ≡ Outcome.Done →
         WritesProved (Some command.now) texts (K.taken sink.old) (K.taken sink.new)) }
+    ensures usage { result ≡ Outcome.Usage → HasNoAnswer (Some command.now) }
     ensures read_fault { result ≡ Outcome.ReadFault → Rose S.last_count (S.faults shelf.old) (S.faults shelf.new)
         × AsksFor (Some command.now) (S.last_fault shelf.new) }
     ensures write_fault { result ≡ Outcome.WriteFault → Rose K.last_count (K.faults sink.old) (K.faults sink.new) }
@@ -109,6 +110,7 @@ fn answer<R: Threads + Sync, S: Shelf, G: Gate + Sync>(
     ensures fault { IsErrOf result Stop.ReadFault → Rose S.last_count (S.faults shelf.old) (S.faults shelf.new)
         × AsksFor (Some command.now) (S.last_fault shelf.new) }
     ensures written { IfOk result (λ answer. IsWritten answer.outcome) }
+    ensures usage { IfOk result (λ answer. answer.outcome ≡ Outcome.Usage → HasNoAnswer (Some command.now)) }
     ensures untouched { NeedsNoText (Some command.now) →
         IsUntouched S.told S.left S.open_name S.faults S.last_fault shelf.old shelf.new }
     ensures told { S.told shelf.new ≡ S.told shelf.old }
