@@ -1,4 +1,5 @@
-ghost use Rattle.std.specs.Prelude.{◌≡◌, IfOk, length};
+ghost use Rattle.std.specs.Prelude.{◌≡◌, ◌≤◌, IfOk, length};
+ghost use Rattle.hyper_model.specs.Words.{words};
 ghost use Rattle.busy_words.specs.WeightParts.{IsOrderOf, places};
 ghost use Rattle.dispatch_fractions.specs.PartLists.{AreSizedFor};
 
@@ -39,21 +40,33 @@ fn weights_of(alloc: Global, plan: &Plan, order: &Order) -> Result<Weights, Allo
     let matrix = reduced(alloc, plan, order)?;
     let mut weights = Weights::reserved(alloc, matrix.size() + 1)?;
     solve_back(&matrix, &mut weights);
-    match plan.line() {
-        Line::Zero => {}
-        Line::Infinite => add_tail(&mut weights, plan.calls(), plan.service()),
-    }
+    add_waiting(&mut weights, plan);
     Ok(weights)
 }
 
 /// What the elimination of all words but the first leaves.
 fn reduced(alloc: Global, plan: &Plan, order: &Order) -> Result<RateMatrix, AllocError>
     requires { IsOrderOf plan.now order.now }
+    ensures alive { IfOk result (λ matrix. matrix.alive ≡ 1) }
+    ensures size { IfOk result (λ matrix. matrix.size ≡ words plan.now) }
 {
     let mut matrix = RateMatrix::packed(alloc, &WordChain::of(plan, order))?;
     let mut scratch = Row::reserved(alloc, matrix.size())?;
     reduce_packed(&mut matrix, &mut scratch);
     Ok(matrix)
+}
+
+/// Adds the weight of the calls that wait, where the plan lets them wait.
+fn add_waiting(weights: &mut Weights, plan: &Plan)
+    requires words { length weights.old.items ≡ words plan.now }
+    requires some { 1 ≤ length weights.old.items }
+    requires room { 1 ≤ weights.old.spare }
+    ensures { length weights.new.items ≡ places plan.now }
+{
+    match plan.line() {
+        Line::Zero => {}
+        Line::Infinite => add_tail(weights, plan.calls(), plan.service()),
+    }
 }
 
 /// What becomes of the calls, and how busy the units are.
