@@ -7,19 +7,18 @@ use Rattle.std.specs.Prelude.{map}
 use Rattle.fixed_interval.specs.Ends.{Ends, Encloses, exact_ends, scaled_ends, share_ends, quotient_ends}
 use Rattle.hyper_model.specs.declared.kinds.Measure.{Measure}
 use Rattle.hyper_model.specs.declared.kinds.Measure.TheVariants as measure
-use Rattle.hyper_model.specs.declared.kinds.Found.{Found}
 use Rattle.hyper_model.specs.declared.kinds.Found.TheVariants as found
 use Rattle.hyper_model.specs.declared.parts.PlanParts.{PlanParts}
 use Rattle.hyper_model.specs.Sums.{sum_below}
-use Rattle.hyper_model.specs.Plans.{units, atoms, service_of, calls_of, all_calls, all_service, is_inside, district_calls, split, IsAccepted}
+use Rattle.hyper_model.specs.Plans.{units, atoms, service_of, calls_of, all_calls, all_service, is_inside, district_calls, split}
 use Rattle.hyper_model.specs.Solutions.{mass_in}
 use Rattle.hyper_model.specs.Measures.{queued, base, taken_mass, dispatched, dispatched_inside, dispatched_outside, dispatched_by, ContainsRatio, measure_of, is_without, scale_of, IsFoundOf, IsContained}
 use Rattle.hyper_model.proofs.Sums.{sum-same, sum-add, sum-scaled, sum-at, sum_split, place_le_sum, cond_scaled}
 use Rattle.hyper_model.proofs.Masses.{dispatched_to_atom, dispatched_parts}
-use Rattle.busy_words.specs.Algebra.{total_ends, where_ends}
+use Rattle.busy_words.specs.Algebra.{where_ends}
 use Rattle.busy_words.proofs.Algebra.{encloses_total, encloses_where}
 use Rattle.dispatch_fractions.specs.PartLists.{PartList, taken_by, help_of, HasParts}
-use Rattle.dispatch_fractions.specs.Fractions.{ends_found, sent_ends, is_on_side, side_ends, region_ends, others_ends, fraction_of, unit_fractions, fractions_of, share_found, region_share, unit_share, district_share, interdistrict_of, AreContained, IsOfPlan, is_absent, HasEndsOnly}
+use Rattle.dispatch_fractions.specs.Fractions.{ends_found, sent_ends, is_on_side, side_ends, region_ends, others_ends, fraction_of, unit_fractions, fractions_of, region_share, unit_share, district_share, interdistrict_of, AreContained, IsOfPlan, is_absent, HasEndsOnly}
 use Rattle.dispatch_fractions.proofs.FlowEnds.{contains_from, sent_is, fraction_is, share_is}
 use Rattle.dispatch_fractions.proofs.Ranges.{all_range, all_flat}
 

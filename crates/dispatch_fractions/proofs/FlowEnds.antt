@@ -1,5 +1,5 @@
 -- What flows contain, over plain numbers: flows count in 2 ^ 62, which falls out of each share and quotient.
-use Rattle.std.proofs.Common.{◌≡◌, ℕ, ◌+◌, ◌*◌, ◌^◌, ◌<◌, ◌≤◌, refl, subst, arith}
+use Rattle.std.proofs.Common.{◌≡◌, ℕ, ◌+◌, ◌*◌, ◌^◌, ◌≤◌, refl, subst, arith}
 use Rattle.fixed_interval.specs.Ends.{Ends, Encloses, exact_ends, plus_ends, scaled_ends, share_ends, quotient_ends}
 use Rattle.fixed_interval.proofs.Rounding.{encloses_same, encloses_times, encloses_exact, encloses_plus, encloses_scaled, encloses_share, encloses_quotient}
 use Rattle.hyper_model.specs.Measures.{Ratio, ContainsRatio}

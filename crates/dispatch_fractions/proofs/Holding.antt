@@ -1,10 +1,9 @@
 -- Parts of weights that enclose a solution contain what they stand for.
-use Rattle.std.proofs.Common.{◌≡◌, ℕ, ◌+◌, ◌*◌, ◌^◌, ◌<◌, ◌≤◌, List, length, map, refl, sym, ap, ap₂, subst, ◌∙◌, arith}
+use Rattle.std.proofs.Common.{◌≡◌, ℕ, ◌*◌, ◌^◌, ◌<◌, ◌≤◌, List, refl, sym, subst, arith}
 use Rattle.std.specs.Prelude.{Option, Some, None, SomeIff, IsSome}
-use Rattle.std.proofs.Math.Nat.{mul-le-mul_left}
 use Rattle.std.proofs.lemmas.Nat.{mul-le}
 use Rattle.std.proofs.lemmas.List.FromFn.{get_or-map-range_with_len}
-use Rattle.fixed_interval.specs.Ends.{Ends, Encloses, between, exact_ends, ratio_ends}
+use Rattle.fixed_interval.specs.Ends.{Ends, Encloses, between, ratio_ends}
 use Rattle.fixed_interval.specs.WeightList.{ends_at}
 use Rattle.fixed_interval.proofs.Rounding.{div_ceil-le, encloses_ratio}
 use Rattle.hyper_model.specs.declared.kinds.Line.{Line}
@@ -18,7 +17,7 @@ use Rattle.hyper_model.proofs.Masses.{service_total_positive}
 use Rattle.busy_words.specs.Order.{WordOrder}
 use Rattle.busy_words.specs.WeightParts.{IsOrderOf, EnclosesSolution, full_part, taken_part}
 use Rattle.busy_words.proofs.WeightParts.{full_part_encloses, taken_part_encloses}
-use Rattle.dispatch_fractions.specs.PartLists.{PartList, taken_by, help_of, waiting_on, help_from, parts_from, ArePartsOf, HasParts}
+use Rattle.dispatch_fractions.specs.PartLists.{PartList, waiting_on, help_from, parts_from, ArePartsOf, HasParts}
 use Rattle.dispatch_fractions.proofs.Ranges.{table_read}
 
 -- one unit's service is at most all service, so that its part of a part is one

@@ -1,4 +1,4 @@
-use Rattle.std.proofs.Common.{◌≡◌, map, All, sym, subst}
+use Rattle.std.proofs.Common.{map, All, sym, subst}
 use Rattle.std.specs.List.{range_with_len}
 use Rattle.hyper_model.specs.Plans.{units}
 use Rattle.dispatch_fractions.specs.Fractions.{region_share, unit_share, district_share, AreContained, IsOfPlan, HasEndsOnly}

@@ -1,4 +1,4 @@
-use Rattle.std.proofs.Common.{◌≡◌, ℕ, ◌*◌, ◌^◌, ◌≤◌, true, not, eqb}
+use Rattle.std.proofs.Common.{◌≡◌, ◌*◌, ◌^◌, ◌≤◌, true, not, eqb}
 use Rattle.busy_words.specs.Algebra.{total_ends, where_ends}
 use Rattle.dispatch_fractions.specs.Fractions.{side_ends}
 use Rattle.dispatch_fractions.proofs.flows.sent_by_others.Given as goal

@@ -1,4 +1,4 @@
-use Rattle.std.proofs.Common.{◌≡◌, ℕ, ◌*◌, ◌^◌, ◌≤◌}
+use Rattle.std.proofs.Common.{◌≡◌, ◌*◌, ◌^◌, ◌≤◌}
 use Rattle.busy_words.specs.Algebra.{total_ends}
 use Rattle.dispatch_fractions.specs.Fractions.{side_ends}
 use Rattle.dispatch_fractions.proofs.flows.sent_in_region.Given as goal

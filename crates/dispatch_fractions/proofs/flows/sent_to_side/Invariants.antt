@@ -1,4 +1,4 @@
-use Rattle.std.proofs.Common.{◌≡◌, ℕ, ◌*◌, ◌^◌, ◌≤◌}
+use Rattle.std.proofs.Common.{◌≡◌, ◌*◌, ◌^◌, ◌≤◌}
 use Rattle.busy_words.specs.Algebra.{total_ends, where_ends}
 use Rattle.dispatch_fractions.specs.Fractions.{is_on_side, sent_ends}
 use Rattle.dispatch_fractions.proofs.flows.sent_to_side.Given as goal

@@ -1,5 +1,5 @@
-use Rattle.std.proofs.Common.{◌≡◌, ℕ, ◌<◌, ◌≤◌, ap, ap₂, ◌∙◌, arith}
-use Rattle.fixed_interval.specs.Ends.{Ends, ratio_ends}
+use Rattle.std.proofs.Common.{◌<◌, ap, ap₂, ◌∙◌, arith}
+use Rattle.fixed_interval.specs.Ends.{ratio_ends}
 use Rattle.hyper_model.specs.declared.parts.Unit as declared_unit
 use Rattle.hyper_model.specs.Plans.{units, service_of, all_service}
 use Rattle.dispatch_fractions.proofs.Holding.{service_part}

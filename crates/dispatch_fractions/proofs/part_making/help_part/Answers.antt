@@ -1,5 +1,5 @@
-use Rattle.std.proofs.Common.{◌≡◌, ℕ, ◌^◌, ◌≤◌, ap, ap₂, ◌∙◌, arith}
-use Rattle.fixed_interval.specs.Ends.{Ends, between, ratio_ends}
+use Rattle.std.proofs.Common.{◌≡◌, ◌^◌, ◌≤◌, ap, arith}
+use Rattle.fixed_interval.specs.Ends.{Ends}
 use Rattle.dispatch_fractions.proofs.Holding.{part_of_part, some_if}
 use Rattle.dispatch_fractions.proofs.part_making.help_part.Goals as goal
 

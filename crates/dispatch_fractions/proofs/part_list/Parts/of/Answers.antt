@@ -1,4 +1,4 @@
-use Rattle.std.proofs.Common.{◌≡◌, ℕ, ◌*◌, length, map, sym, ap, ap₂, ◌∙◌}
+use Rattle.std.proofs.Common.{◌*◌, length, map, sym, ap, ap₂, ◌∙◌}
 use Rattle.std.specs.List.{range_with_len}
 use Rattle.std.proofs.lemmas.List.FromFn.{length-map-range_with_len}
 use Rattle.fixed_interval.specs.Ends.{Ends, ratio_ends}
