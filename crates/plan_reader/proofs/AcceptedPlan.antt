@@ -56,7 +56,6 @@ pub accepted_parts : (records : List Record) (settings : Settings) (entries : En
     → located_of entries records ≡ Ok located → preferences_of settings.rule entries located records ≡ Ok lists
     → stable_refusal settings.line entries ≡ None → IsAccepted (parts_of settings entries lists located travel)
 accepted_parts records settings entries travel located lists form set given trips places preferred stable =
-    let p : PlanParts = parts_of settings entries lists located travel in
     let period = period_within records form.values in
     let seen = settings_of-ok records settings set in
     record {
