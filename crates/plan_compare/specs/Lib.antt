@@ -1,0 +1,4 @@
+pub mod Refusals
+pub mod Asked
+pub mod Documents
+pub mod Studies
