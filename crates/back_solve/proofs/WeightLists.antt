@@ -98,7 +98,7 @@ weights_enclose size least caps entries items ys some sound are count holds =
     rw whole at (weights_so_far size least size caps entries items ys some sound (omega arith) are count holds)
 
 -- the least shift is one, and so is what a push makes
-pushed-one : (old new other : List Ends) (w : Ends) → PushesShifted old new w → PushesShifted old other w → new ≡ other
+pub pushed-one : (old new other : List Ends) (w : Ends) → PushesShifted old new w → PushesShifted old other w → new ≡ other
 pushed-one old new other w pushed again =
     let first : pushed.power ≤ again.power = pushed.least.least again.power again.least.fits in
     let second : again.power ≤ pushed.power = again.least.least pushed.power pushed.least.fits in

@@ -1,7 +1,6 @@
 -- Parts of weights that enclose a solution contain what they stand for.
 use Rattle.std.proofs.Common.{◌≡◌, ℕ, ◌+◌, ◌*◌, ◌^◌, ◌<◌, ◌≤◌, List, length, map, refl, sym, ap, ap₂, subst, ◌∙◌, arith}
 use Rattle.std.specs.Prelude.{Option, Some, None, SomeIff, IsSome}
-use Rattle.std.specs.List.{flat_map, range_with_len}
 use Rattle.std.proofs.Math.Nat.{mul-le-mul_left}
 use Rattle.std.proofs.lemmas.Nat.{mul-le}
 use Rattle.std.proofs.lemmas.List.FromFn.{get_or-map-range_with_len}
@@ -19,7 +18,7 @@ use Rattle.hyper_model.proofs.Masses.{service_total_positive}
 use Rattle.busy_words.specs.Order.{WordOrder}
 use Rattle.busy_words.specs.WeightParts.{IsOrderOf, EnclosesSolution, full_part, taken_part}
 use Rattle.busy_words.proofs.WeightParts.{full_part_encloses, taken_part_encloses}
-use Rattle.dispatch_fractions.specs.PartLists.{PartList, taken_by, help_of, waiting_on, help_from, taken_row, AreSizedFor, ArePartsOf, HasParts}
+use Rattle.dispatch_fractions.specs.PartLists.{PartList, taken_by, help_of, waiting_on, help_from, parts_from, ArePartsOf, HasParts}
 use Rattle.dispatch_fractions.proofs.Ranges.{table_read}
 
 -- one unit's service is at most all service, so that its part of a part is one
@@ -34,21 +33,21 @@ pub part_of_part : (w r : Ends) (a b : ℕ) → 1 ≤ b → a ≤ b → w.hi ≤
 part_of_part w r a b some part in_range is =
     rw is (div_ceil-le (w.hi * a) b (2 ^ 62) (omega arith) (mul-le w.hi a (2 ^ 62) b in_range part))
 
+pub same_parts : (rows height cols width : ℕ) (some taken : List Ends) (all full : Ends) (part help : List Ends)
+    → rows ≡ height → cols ≡ width → some ≡ taken → all ≡ full → part ≡ help
+    → (let before : PartList = record { units = rows; atoms = cols; taken = some; full = all; help = part } in
+    let after : PartList = record { units = height; atoms = width; taken = taken; full = full; help = help } in
+    before ≡ after)
+same_parts rows height cols width some taken all full part help r c t f h = cc
+
 -- the parts that are pushed unit by unit are those of the weights
-pub made_parts : (p : PlanParts) (order : WordOrder) (w : ℕ → Ends) (parts : PartList)
-    → AreSizedFor p parts → parts.full ≡ full_part p w
-    → parts.taken ≡ flat_map (taken_row p order w) (range_with_len 0 (units p))
-    → parts.help ≡ map (help_from p (full_part p w)) (range_with_len 0 (units p))
-    → ArePartsOf p order w parts
-made_parts p order w parts sized full taken help = record {
-  sized = sized;
-  full = full;
-  taken = λ n j l k.
-      ap₂ (λ xs cols. ends_at xs (n * cols + j)) taken sized.same_atoms
-      ∙ table_read (taken_part p order w) (atoms p) (units p) n j (between 0 0) l k;
+pub parts_are : (p : PlanParts) (order : WordOrder) (w : ℕ → Ends) → ArePartsOf p order w (parts_from p order w)
+parts_are p order w = record {
+  sized = record { same_units = refl; same_atoms = refl };
+  full = refl;
+  taken = λ n j l k. table_read (taken_part p order w) (atoms p) (units p) n j (between 0 0) l k;
   help = λ n l.
-      ap (λ xs. ends_at xs n) help
-      ∙ get_or-map-range_with_len (help_from p (full_part p w)) 0 (units p) n n (between 0 0) l (omega arith);
+      get_or-map-range_with_len (help_from p (full_part p w)) 0 (units p) n n (between 0 0) l (omega arith);
 }
 
 module _ (p : PlanParts) (a : IsAccepted p) (order : WordOrder) (o : IsOrderOf p order) (items : List Ends)

@@ -2,7 +2,7 @@
 -- part of the atom's answered calls that the unit takes at once, the part of the states in which all units are
 -- busy, and of each unit the part of the calls that wait and are its.
 use Rattle.std.specs.Prelude.{◌≡◌, ℕ, ◌+◌, ◌*◌, ◌^◌, ◌<◌, List, map}
-use Rattle.std.specs.List.{range_with_len}
+use Rattle.std.specs.List.{flat_map, range_with_len}
 use Rattle.fixed_interval.specs.Ends.{Ends, Encloses, exact_ends, ratio_ends}
 use Rattle.fixed_interval.specs.WeightList.{ends_at}
 use Rattle.hyper_model.specs.declared.kinds.Line.{Line}
@@ -42,6 +42,16 @@ help_from p full n = ratio_ends (waiting_on p.line full) (service_of p n) (all_s
 -- the parts of all atoms' calls that unit n takes at once, of these weights
 abbrev pub taken_row : PlanParts → WordOrder → (ℕ → Ends) → ℕ → List Ends
 taken_row p order w n = map (taken_part p order w n) (range_with_len 0 (atoms p))
+
+-- all parts of these weights
+abbrev pub parts_from : PlanParts → WordOrder → (ℕ → Ends) → PartList
+parts_from p order w = record {
+  units = units p;
+  atoms = atoms p;
+  taken = flat_map (taken_row p order w) (range_with_len 0 (units p));
+  full = full_part p w;
+  help = map (help_from p (full_part p w)) (range_with_len 0 (units p));
+}
 
 -- the parts are those of a plan's units and atoms
 pub record AreSizedFor (p : PlanParts) (parts : PartList) : Type 0 where

@@ -33,7 +33,7 @@ impl Parts {
     ghost use Rattle.std.specs.Prelude.{◌≡◌, ℕ, ◌<◌, List, IfOk, length};
     ghost use Rattle.fixed_interval.specs.WeightList.{ends_at};
     ghost use Rattle.busy_words.specs.WeightParts.{EnclosesSolution, IsOrderOf, places};
-    ghost use Rattle.dispatch_fractions.specs.PartLists.{ArePartsOf, HasParts, taken_by, help_of, waiting_on};
+    ghost use Rattle.dispatch_fractions.specs.PartLists.{ArePartsOf, HasParts, parts_from, taken_by, help_of, waiting_on};
 
     /// The parts of these weights, one for each word in this order, and on the infinite line one more for the
     /// calls that wait.
@@ -45,6 +45,7 @@ impl Parts {
     ) -> Result<Parts, AllocError>
         requires order { IsOrderOf plan.now order.now }
         requires one_each { length weights.now.items ≡ places plan.now }
+        ensures exact { IfOk result (λ parts. parts ≡ parts_from plan.now order.now (ends_at weights.now.items)) }
         ensures parts { IfOk result (λ parts. ArePartsOf plan.now order.now (ends_at weights.now.items) parts) }
         ensures encloses { IfOk result (λ parts. (xs : List ℕ) (z : ℕ)
             → EnclosesSolution plan.now order.now weights.now.items xs z → HasParts plan.now xs z parts) }

@@ -7,7 +7,7 @@ use Rattle.hyper_model.specs.Plans.{units, atoms, service_of, all_service}
 use Rattle.busy_words.specs.WeightParts.{taken_part}
 use Rattle.dispatch_fractions.specs.PartLists.{waiting_on}
 use Rattle.dispatch_fractions.proofs.Ranges.{table_length}
-use Rattle.dispatch_fractions.proofs.Holding.{made_parts, has_parts}
+use Rattle.dispatch_fractions.proofs.Holding.{same_parts, parts_are, has_parts}
 use Rattle.dispatch_fractions.proofs.part_list.Parts.of.Goals as goal
 
 pub invariant_of-result : goal.invariant_of-result
@@ -23,15 +23,19 @@ invariant_of-result c =
           ∙ sym c.units.ensures.units,
     )
 
-pub returns-clause-parts : goal.returns-clause-parts
-returns-clause-parts c =
+pub returns-clause-exact : goal.returns-clause-exact
+returns-clause-exact c =
     let p = c.args.plan.now in
+    let w = ends_at c.args.weights.now.items in
     let waiting = c.waiting_part.ensures ∙ ap (waiting_on p.line) c.full_part-full.ensures.ends in
-    made_parts p c.args.order.now (ends_at c.args.weights.now.items) _
-    (record { same_units = c.units.ensures.units; same_atoms = c.atoms.ensures.atoms })
-    c.full_part-full.ensures.ends c.in_ok-taken.ensures
+    same_parts _ _ _ _ _ _ _ _ _ _ c.units.ensures.units c.atoms.ensures.atoms c.in_ok-taken.ensures
+    c.full_part-full.ensures.ends
     (c.in_ok-help.ensures.help
     ∙ ap (λ (w : Ends). map (λ n. ratio_ends w (service_of p n) (all_service p)) (range_with_len 0 (units p))) waiting)
+
+pub returns-clause-parts : goal.returns-clause-parts
+returns-clause-parts c =
+    rw (returns-clause-exact c) (parts_are c.args.plan.now c.args.order.now (ends_at c.args.weights.now.items))
 
 pub returns-clause-encloses : goal.returns-clause-encloses
 returns-clause-encloses c xs z e =

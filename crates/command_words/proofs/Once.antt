@@ -1,0 +1,50 @@
+-- What is given once, found from the front.
+use Rattle.std.proofs.Common.{◌≡◌, ◌∙◌, ℕ, ◌+◌, ◌<◌, List, [], ◌∷◌, ◌++◌, length, get_or, take, drop, refl, sym, ap, arith}
+use Rattle.std.specs.Prelude.{Option, Some, None}
+use Rattle.std.specs.List.{cons_option, filter_map}
+use Rattle.std.specs.Option.{option_to_list}
+use Rattle.std.proofs.lemmas.List.{take-append-drop, take_more}
+use Rattle.std.proofs.lemmas.List.Elements.{filter_map-append}
+use Rattle.command_words.specs.Options.{once}
+use Rattle.command_words.specs.declared.options.Given.{Given}
+
+pub list_of_once : (numbers : List ℕ) (found : Option ℕ) → once numbers ≡ Some found → numbers ≡ option_to_list found
+list_of_once [] found is = cc
+list_of_once (number ∷ []) found is = cc
+list_of_once (first ∷ second ∷ numbers) found is = absurd (cc)
+
+once-front : (front rest : List ℕ) → once front ≡ None → once (front ++ rest) ≡ None
+once-front [] rest is = absurd (cc)
+once-front (number ∷ []) rest is = absurd (cc)
+once-front (first ∷ second ∷ numbers) rest is = refl
+
+filter_map-more : (f : Given → Option ℕ) (options : List Given) (i : ℕ) (none : Given) → i < length options
+    → filter_map f (take (i + 1) options) ≡ filter_map f (take i options) ++ option_to_list (f (get_or options i none))
+filter_map-more f options i none lt =
+    ap (filter_map f) (take_more options i none lt)
+    ∙ filter_map-append f (take i options) (get_or options i none ∷ [])
+    ∙ ap (λ last. filter_map f (take i options) ++ last) (alone (f (get_or options i none)))
+  where
+    alone : (number : Option ℕ) → cons_option number [] ≡ option_to_list number
+    alone None = refl
+    alone (Some number) = refl
+
+module _ (f : Given → Option ℕ) (options : List Given) (i : ℕ) (none : Given) (found number : Option ℕ) (lt : i < length options)
+    (is : number ≡ f (get_or options i none)) (before : filter_map f (take i options) ≡ option_to_list found) where
+  front : filter_map f (take (i + 1) options) ≡ option_to_list found ++ option_to_list number
+  front =
+      filter_map-more f options i none lt
+      ∙ ap (λ numbers. numbers ++ option_to_list (f (get_or options i none))) before
+      ∙ ap (λ o. option_to_list found ++ option_to_list o) (sym is)
+
+  -- an option more
+  pub once-more : (now : Option ℕ) → Some now ≡ once (option_to_list found ++ option_to_list number)
+      → filter_map f (take (i + 1) options) ≡ option_to_list now
+  once-more now one = list_of_once (filter_map f (take (i + 1) options)) now (ap once front ∙ sym one)
+
+  -- a number behind another
+  pub once-twice : None ≡ once (option_to_list found ++ option_to_list number) → once (filter_map f options) ≡ None
+  once-twice two =
+      ap (λ all. once (filter_map f all)) (sym (take-append-drop (i + 1) options))
+      ∙ ap once (filter_map-append f (take (i + 1) options) (drop (i + 1) options))
+      ∙ once-front (filter_map f (take (i + 1) options)) (filter_map f (drop (i + 1) options)) (ap once front ∙ sym two)

@@ -1,0 +1,43 @@
+use crate::Name255;
+use report_text::Widths;
+
+/// What the program is asked to do.
+#[derive(Debug, Drop, PartialEq, Eq)]
+pub enum Command {
+    /// Report the measures of a plan.
+    Solve {
+        /// The plan's file.
+        file: Name255,
+        /// How wide the report's intervals may be.
+        widths: Widths,
+        /// How many workers share the work, from 1 to 16.
+        workers: u32,
+        /// Whether only the measures of the whole region are reported.
+        summary: bool,
+    },
+    /// Compare the plans of a study.
+    Compare {
+        /// The study's file.
+        study: Name255,
+        /// How wide the intervals of each plan may be.
+        widths: Widths,
+        /// How many workers share the work, from 1 to 16.
+        workers: u32,
+    },
+    /// Make a plan.
+    Make {
+        /// How many units it is to have, below 10^18.
+        units: u64,
+        /// The number that it is made from, below 10^18.
+        number: u64,
+    },
+}
+
+/// Why words gave no [`Command`].
+#[derive(Clone, Copy, Debug, PartialEq, Eq)]
+pub enum WordsEnd {
+    /// They are no command.
+    NoCommand,
+    /// There was no memory to read them.
+    NoMemory,
+}

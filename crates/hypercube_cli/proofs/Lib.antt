@@ -1,9 +1,0 @@
-pub mod Endings
-pub mod FirstRecords
-pub mod FirstReportText
-pub mod FirstWeights
-pub mod OnePlan
-pub mod OneUnit
-pub mod OneUnitAccepted
-pub mod ReadRecords
-pub mod SaidPlan

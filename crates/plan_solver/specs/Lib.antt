@@ -1,0 +1,3 @@
+pub mod PlanWeights
+pub mod Enclosures
+pub mod Solvers

@@ -1,0 +1,65 @@
+ghost use Rattle.std.specs.Prelude.{◌≡◌, ◌≤◌, All, IfOk, List};
+ghost use Rattle.hyper_model.specs.declared.kinds.Enclosed.{Enclosed};
+ghost use Rattle.hyper_model.specs.Measures.{IsInRange};
+ghost use Rattle.hyper_model.specs.Solutions.{HasSolution};
+ghost use Rattle.plan_solver.specs.Enclosures.{ContainsSolutions, IsEnclosureOf};
+
+use crate::Solver;
+use crate::measuring::measures;
+use hyper_model::{Enclosures, Plan, law_existence};
+use rate_matrix::Gate;
+use std::alloc::{AllocError, Global};
+use std::thread::Threads;
+
+/// All measures of a plan in the order in which a report prints them, each with ends that contain its value.
+///
+/// The value is the one that Larson's formulas give for any solution of the plan's balance equations, and there is
+/// one (Larson 1974; Larson and Odoni, Urban Operations Research, chapter 5). The two measures of a district from
+/// which no call comes have no value, and no ends. There is an error for want of memory alone.
+pub fn enclose(alloc: Global, plan: &Plan) -> Result<Enclosures, AllocError>
+    ensures solvable { HasSolution plan.now }
+    ensures exact { IfOk result (λ found. IsEnclosureOf plan.now found.items) }
+    ensures alone { IfOk result (λ found. (others : List Enclosed) → IsEnclosureOf plan.now others → others ≡ found.items) }
+    ensures contains { IfOk result (λ found. ContainsSolutions plan.now found.items) }
+    ensures in_range { IfOk result (λ found. All (λ e. IsInRange plan.now e.measure) found.items) }
+{
+    law_existence(plan);
+    let weighed = Solver::reserved(alloc, plan)?.weigh();
+    measures(alloc, plan, &weighed)
+}
+
+/// Does what [`enclose`] does, the rows of each elimination by 1 to 16 workers.
+///
+/// Each entry that an elimination changes is computed by the gate, which is told the place of the plan among others.
+/// Neither the number of workers nor the gate has a part in what is found.
+pub fn enclose_with<R: Threads + Sync, G: Gate + Sync>(
+    rt: &R,
+    alloc: Global,
+    plan: &Plan,
+    workers: u32,
+    gate: &G,
+    place: usize,
+) -> Result<Enclosures, AllocError>
+    requires some { 1 ≤ workers }
+    requires most { workers ≤ 16 }
+    ensures solvable { HasSolution plan.now }
+    ensures exact { IfOk result (λ found. IsEnclosureOf plan.now found.items) }
+    ensures alone { IfOk result (λ found. (others : List Enclosed) → IsEnclosureOf plan.now others → others ≡ found.items) }
+    ensures contains { IfOk result (λ found. ContainsSolutions plan.now found.items) }
+    ensures in_range { IfOk result (λ found. All (λ e. IsInRange plan.now e.measure) found.items) }
+{
+    law_existence(plan);
+    let weighed = Solver::reserved(alloc, plan)?.weigh_with(rt, workers, gate, place);
+    measures(alloc, plan, &weighed)
+}
+
+/// The measures with the ends of the method are one list, and each contains its value for every solution.
+///
+/// It answers nothing: its contract is the theorem.
+pub fn law_enclosure(plan: &Plan)
+    ensures alone { (found others : List Enclosed) → IsEnclosureOf plan.now found → IsEnclosureOf plan.now others
+        → others ≡ found }
+    ensures contains { (found : List Enclosed) → IsEnclosureOf plan.now found → ContainsSolutions plan.now found }
+{
+    let _calls = plan.calls();
+}

@@ -1,0 +1,123 @@
+use crate::weighing::fill;
+use busy_words::Order;
+use fixed_interval::Weights;
+use hyper_model::{Line, Plan};
+use rate_matrix::{Gate, RateMatrix, WordChain};
+use state_reduction::{Row, reduce_packed, reduce_rows};
+use std::alloc::{AllocError, Global};
+use std::marker::Model;
+use std::thread::Threads;
+
+/// The chain of a plan's words, with all the memory that solving it takes.
+///
+/// Contracts see the order of the words, the rates between them, the plan's line, and the rates of all calls and of
+/// all service. Each plan that has these is the solver's.
+#[derive(Debug, Drop)]
+pub struct Solver {
+    order: Order,
+    matrix: RateMatrix,
+    row: Row,
+    weights: Weights,
+    line: Line,
+    calls: u32,
+    service: u32,
+}
+
+impl Model for Solver {
+    ghost use Rattle.std.specs.Prelude.{length};
+    ghost use Rattle.plan_solver.specs.Solvers.{SolverParts, IsReady};
+
+    ghost Value = { SolverParts };
+
+    ghost view = { λ a. record { order = a.order; matrix = a.matrix; line = a.line; calls = a.calls; service = a.service } };
+
+    ghost invariant = { λ a. IsReady (record { order = a.order; matrix = a.matrix; line = a.line; calls = a.calls; service = a.service }) (length a.row) a.weights };
+}
+
+/// The weights of a plan, in the order of its words. On the infinite line one more stands behind them, for all
+/// states in which a call waits.
+#[derive(Debug, Drop)]
+pub struct Weighed {
+    pub order: Order,
+    pub weights: Weights,
+}
+
+impl Solver {
+    ghost use Rattle.std.specs.Prelude.{◌≡◌, ◌≤◌, ℕ, IfOk, List};
+    ghost use Rattle.hyper_model.specs.declared.parts.PlanParts.{PlanParts};
+    ghost use Rattle.hyper_model.specs.Solutions.{IsSolution};
+    ghost use Rattle.busy_words.specs.WeightParts.{EnclosesSolution};
+    ghost use Rattle.plan_solver.specs.PlanWeights.{ArePlanWeights};
+    ghost use Rattle.plan_solver.specs.Solvers.{IsSolverOf};
+
+    /// The solver of this plan. All memory is taken here.
+    pub fn reserved(alloc: Global, plan: &Plan) -> Result<Solver, AllocError>
+        ensures { IfOk result (IsSolverOf plan.now) }
+    {
+        let order = Order::of(alloc, plan.units() as u8)?;
+        let matrix = RateMatrix::packed(alloc, &WordChain::of(plan, &order))?;
+        let states = order.len();
+        Ok(Solver {
+            row: Row::reserved(alloc, states)?,
+            weights: Weights::reserved(alloc, states + 1)?,
+            order,
+            matrix,
+            line: plan.line(),
+            calls: plan.calls(),
+            service: plan.service(),
+        })
+    }
+
+    /// Eliminates all words but the first, and weighs them one after the other (Grassmann, Taksar and Heyman 1985).
+    ///
+    /// The weights enclose every solution of the plan, up to one common factor. No memory is taken.
+    pub fn weigh(self) -> Weighed
+        ensures weights { (p : PlanParts) → IsSolverOf p self → ArePlanWeights p result.order result.weights.items }
+        ensures encloses { (p : PlanParts) → IsSolverOf p self → (xs : List ℕ) (z : ℕ) → IsSolution p xs z
+            → EnclosesSolution p result.order result.weights.items xs z }
+    {
+        let Solver {
+            order,
+            mut matrix,
+            mut row,
+            mut weights,
+            line,
+            calls,
+            service,
+        } = self;
+        reduce_packed(&mut matrix, &mut row);
+        fill(&mut weights, &matrix, line, calls, service);
+        Weighed { order, weights }
+    }
+
+    /// Does what [`Solver::weigh`] does, the rows of each elimination by 1 to 16 workers.
+    ///
+    /// Each entry that changes is computed by the gate, which is told the place of the plan among others. Neither
+    /// the number of workers nor the gate has a part in the weights.
+    pub fn weigh_with<R: Threads + Sync, G: Gate + Sync>(
+        self,
+        rt: &R,
+        workers: u32,
+        gate: &G,
+        place: usize,
+    ) -> Weighed
+        requires some { 1 ≤ workers }
+        requires most { workers ≤ 16 }
+        ensures weights { (p : PlanParts) → IsSolverOf p self → ArePlanWeights p result.order result.weights.items }
+        ensures encloses { (p : PlanParts) → IsSolverOf p self → (xs : List ℕ) (z : ℕ) → IsSolution p xs z
+            → EnclosesSolution p result.order result.weights.items xs z }
+    {
+        let Solver {
+            order,
+            mut matrix,
+            mut row,
+            mut weights,
+            line,
+            calls,
+            service,
+        } = self;
+        reduce_rows(rt, &mut matrix, &mut row, workers, gate, place);
+        fill(&mut weights, &matrix, line, calls, service);
+        Weighed { order, weights }
+    }
+}
