@@ -3,3 +3,9 @@ pub mod Documents
 pub mod FirstPlaces
 pub mod StudyForms
 pub mod StudySteps
+pub mod Pieces
+pub mod Pairs
+pub mod MeasureLines
+pub mod ValueSteps
+pub mod VerdictLines
+pub mod WideValues

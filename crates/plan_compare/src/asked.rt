@@ -26,3 +26,18 @@ pub(crate) fn measure_named(word: &[u8]) -> Option<Measure>
         None
     }
 }
+
+/// The word of a measure of the whole region. Others have none.
+pub(crate) fn word(measure: Measure) -> &'static [u8]
+    ensures { result.now ≡ spec.word_of measure }
+{
+    match measure {
+        Measure::Loss => b"loss",
+        Measure::Delay => b"delay",
+        Measure::Queue => b"queue",
+        Measure::Wait => b"wait",
+        Measure::Interdistrict => b"interdistrict",
+        Measure::Travel => b"travel",
+        _ => b"",
+    }
+}

@@ -2,11 +2,22 @@
 #![tactic(auto)]
 
 mod asked;
+mod comparing;
 mod document;
+mod ending;
+mod lines;
 mod refusal;
+mod separating;
 mod study;
 #[cfg(test)]
 mod tests;
+mod values;
+mod verdict_list;
+mod widths;
 
+pub use comparing::comparison;
+pub use ending::CompareEnd;
 pub use refusal::StudyRefusal;
+pub use separating::verdicts;
 pub use study::{MOST_STUDY_BYTES, Study, read_study};
+pub use verdict_list::{Verdict, VerdictList};

@@ -1,5 +1,8 @@
+ghost use Rattle.std.specs.Prelude.{◌≡◌, ◌≤◌, length};
+
 use super::*;
-use hyper_model::Measure;
+use hyper_model::{Enclosed, Enclosures, Found, Measure};
+use report_text::Widths;
 use std::alloc::{AllocError, Global};
 use std::test::Fail;
 
@@ -139,5 +142,136 @@ fn numbers_of_the_refusals(rt: HostRuntime) -> Result<(), Fail> {
         assert_eq!(rt; refusal.number(), number);
         assert_eq!(rt; refusal.arguments(), arguments);
     }
+    Ok(())
+}
+
+/// A plan's list with these ends, in millionths of the loss and in thousandths of a second of the travel time.
+fn list_of(
+    alloc: Global,
+    loss: (u64, u64),
+    travel: (u64, u64),
+) -> Result<Enclosures, AllocError>
+    requires loss { loss.0 ≤ loss.1 }
+    requires travel { travel.0 ≤ travel.1 }
+{
+    let mut list = Enclosures::reserved(alloc, 4)?;
+    list.push(Enclosed {
+        measure: Measure::Loss,
+        found: Found::Ends(loss.0, loss.1),
+    });
+    list.push(Enclosed {
+        measure: Measure::Workload(0),
+        found: Found::Ends(1, 2),
+    });
+    list.push(Enclosed {
+        measure: Measure::InterdistrictDistrict(0),
+        found: Found::Without,
+    });
+    list.push(Enclosed {
+        measure: Measure::Travel,
+        found: Found::Ends(travel.0, travel.1),
+    });
+    Ok(list)
+}
+
+/// Any width will do.
+const ANY: Widths = Widths {
+    share: None,
+    time: None,
+};
+
+/// The comparison of plans with these lists.
+fn text_of(
+    alloc: Global,
+    study: &Study,
+    found: &[Enclosures],
+    widths: Widths,
+) -> Result<Vec<u8>, CompareEnd>
+    requires { length found.now ≡ length study.now.plans }
+{
+    match VerdictList::reserved(alloc, study) {
+        Ok(mut list) => {
+            verdicts(study, found, &mut list);
+            comparison(alloc, study, found, &list, widths)
+        }
+        Err(_) => Err(CompareEnd::NoMemory),
+    }
+}
+
+#[test]
+fn two_plans_by_their_losses(rt: HostRuntime) -> Result<(), Fail> {
+    let study = read_study(rt.alloc(), b"plans = ['a', 'b']\nmeasures = ['loss']")?;
+    let found = [
+        list_of(rt.alloc(), (117_647, 117_648), (0, 0))?,
+        list_of(rt.alloc(), (333_333, 333_334), (0, 0))?,
+    ];
+    assert_eq!(rt; study.plans(), 2);
+    let text = text_of(rt.alloc(), &study, &found, ANY).ok().ok_or("too wide")?;
+    let lines = b"study,1\nplans,2\nvalue,loss,1,0.117647,0.117648\n\
+        value,loss,2,0.333333,0.333334\nverdict,loss,1,2,below\nend\n";
+    assert_eq!(rt; text.as_slice(), lines.as_slice());
+    Ok(())
+}
+
+#[test]
+fn ends_that_touch_are_not_separated(rt: HostRuntime) -> Result<(), Fail> {
+    let study = read_study(rt.alloc(), b"plans = ['a', 'b', 'c']\nmeasures = ['loss']")?;
+    let found = [
+        list_of(rt.alloc(), (333_335, 333_336), (0, 0))?,
+        list_of(rt.alloc(), (333_333, 333_334), (0, 0))?,
+        list_of(rt.alloc(), (333_334, 333_335), (0, 0))?,
+    ];
+    assert_eq!(rt; study.plans(), 3);
+    let mut list = VerdictList::reserved(rt.alloc(), &study)?;
+    verdicts(&study, &found, &mut list);
+    assert_eq!(rt; list.len(), 3);
+    assert_eq!(rt; list.get(0), Verdict::Above);
+    assert_eq!(rt; list.get(1), Verdict::NotSeparated);
+    assert_eq!(rt; list.get(2), Verdict::NotSeparated);
+    Ok(())
+}
+
+#[test]
+fn three_plans_by_two_measures(rt: HostRuntime) -> Result<(), Fail> {
+    let text = b"plans = ['a', 'b', 'c']\nmeasures = ['travel', 'delay']";
+    let study = read_study(rt.alloc(), text)?;
+    let found = [
+        list_of(rt.alloc(), (1, 2), (61_500, 61_502))?,
+        list_of(rt.alloc(), (1, 2), (300_000, 300_001))?,
+        list_of(rt.alloc(), (1, 2), (2_000, 61_499))?,
+    ];
+    assert_eq!(rt; study.plans(), 3);
+    let text = text_of(rt.alloc(), &study, &found, ANY).ok().ok_or("too wide")?;
+    let lines = b"study,1\nplans,3\nvalue,travel,1,61.500,61.502\nvalue,travel,2,300.000,300.001\n\
+        value,travel,3,2.000,61.499\nverdict,travel,1,2,below\nverdict,travel,1,3,above\n\
+        verdict,travel,2,3,above\nvalue,delay,1,0.000000,0.000000\nvalue,delay,2,0.000000,0.000000\n\
+        value,delay,3,0.000000,0.000000\nverdict,delay,1,2,not separated\n\
+        verdict,delay,1,3,not separated\nverdict,delay,2,3,not separated\nend\n";
+    assert_eq!(rt; text.as_slice(), lines.as_slice());
+    Ok(())
+}
+
+#[test]
+fn the_first_value_that_is_too_wide(rt: HostRuntime) -> Result<(), Fail> {
+    let study = read_study(rt.alloc(), b"plans = ['a', 'b']\nmeasures = ['loss', 'travel']")?;
+    let found = [
+        list_of(rt.alloc(), (10, 12), (1000, 1005))?,
+        list_of(rt.alloc(), (10, 13), (1000, 1005))?,
+    ];
+    assert_eq!(rt; study.plans(), 2);
+    let widths = [
+        (Some(2), Some(4), CompareEnd::TooWide(1, Measure::Travel, 1000, 1005)),
+        (Some(1), Some(4), CompareEnd::TooWide(1, Measure::Loss, 10, 12)),
+        (Some(2), None, CompareEnd::TooWide(2, Measure::Loss, 10, 13)),
+    ];
+    for (share, time, end) in widths {
+        let ended = text_of(rt.alloc(), &study, &found, Widths { share, time }).err();
+        assert_eq!(rt; ended, Some(end));
+    }
+    let widest = Widths {
+        share: Some(3),
+        time: Some(5),
+    };
+    assert!(rt; text_of(rt.alloc(), &study, &found, widest).is_ok());
     Ok(())
 }
