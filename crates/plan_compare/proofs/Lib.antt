@@ -9,3 +9,6 @@ pub mod MeasureLines
 pub mod ValueSteps
 pub mod VerdictLines
 pub mod WideValues
+pub mod RegionValues
+pub mod TrueVerdicts
+pub mod SolvedPlans

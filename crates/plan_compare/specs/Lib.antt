@@ -5,3 +5,5 @@ pub mod Studies
 pub mod Values
 pub mod Verdicts
 pub mod Comparisons
+pub mod Truth
+pub mod Enclosing

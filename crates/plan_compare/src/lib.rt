@@ -8,6 +8,7 @@ mod ending;
 mod lines;
 mod refusal;
 mod separating;
+mod solving;
 mod study;
 #[cfg(test)]
 mod tests;
@@ -19,5 +20,6 @@ pub use comparing::comparison;
 pub use ending::CompareEnd;
 pub use refusal::StudyRefusal;
 pub use separating::verdicts;
+pub use solving::enclose_all;
 pub use study::{MOST_STUDY_BYTES, Study, read_study};
 pub use verdict_list::{Verdict, VerdictList};

@@ -53,11 +53,12 @@ impl Study {
         self.names[i].as_str()
     }
 
-    /// How many measures there are, 1 to 16.
+    /// How many measures there are, 1 to 16. All are of the whole region.
     pub fn measures(&self) -> usize
         ensures number { result ≡ length self.now.measures }
         ensures least { 1 ≤ result }
         ensures most { result ≤ 16 }
+        ensures region { All (λ m. is_of_region m ≡ true) self.now.measures }
     {
         self.measures.len()
     }

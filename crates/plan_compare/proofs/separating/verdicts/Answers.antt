@@ -1,8 +1,9 @@
 use Rattle.std.proofs.Common.{◌≡◌, ◌+◌, ◌++◌, ◌∙◌, ap, sym, length, map, take, arith, length-append}
 use Rattle.std.specs.List.{flat_map}
-use Rattle.std.proofs.lemmas.List.{map-append}
+use Rattle.std.proofs.lemmas.List.{map-append, take_all}
 use Rattle.plan_compare.specs.Verdicts.{pairs_of, verdict_of}
 use Rattle.plan_compare.proofs.Pieces.{piece_fits, piece_next}
+use Rattle.plan_compare.proofs.TrueVerdicts.{all_true}
 use Rattle.plan_compare.proofs.separating.verdicts.Goals as goal
 
 pub push_verdicts-requires : goal.push_verdicts-requires
@@ -24,3 +25,14 @@ loop-k-preserved c =
           ∙ sym (ap (map tell) next ∙ map-append tell done (pairs c.measure.result));
       spare = omega (arith, ap length next, length-append done (pairs c.measure.result), c.loop-k.invariant.spare, c.push_verdicts.ensures.spare)
     }
+
+pub returns-clause-proved : goal.returns-clause-proved
+returns-clause-proved c =
+    let found = c.args.found.now in
+    let measures = c.args.study.now.measures in
+    let tell = verdict_of found in
+    let all : take c.loop-k.k measures ≡ measures = take_all c.loop-k.k measures (omega (arith, c.measures-k-end.ensures.number)) in
+    all_true c.args.study.now found c.loop-k.out.items c.measures-k-end.ensures.region
+    (c.loop-k.invariant.items
+      ∙ ap (λ ms. map tell (flat_map (pairs_of (length found)) ms)) all
+      ∙ ap (λ n. map tell (flat_map (pairs_of n) measures)) c.requires.one_each)
