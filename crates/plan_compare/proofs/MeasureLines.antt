@@ -9,8 +9,8 @@ use Rattle.plan_compare.specs.declared.verdict_list.Verdict.{Verdict}
 use Rattle.plan_compare.proofs.Pieces.{drop_at, drop_piece, take_piece}
 
 module _ (tell : Compared → Verdict) (n : ℕ) (measures : List Measure) (k : ℕ) (m : Measure) (at : slice_get measures k ≡ Some m)
-  (rest : List Verdict) (is : rest ≡ map tell (flat_map (pairs_of n) (drop k measures)))
-  (count : ℕ) (counts : count ≡ length (pairs_of n m)) where
+    (rest : List Verdict) (is : rest ≡ map tell (flat_map (pairs_of n) (drop k measures)))
+    (count : ℕ) (counts : count ≡ length (pairs_of n m)) where
   parts : rest ≡ map tell (pairs_of n m) ++ map tell (flat_map (pairs_of n) (drop (k + 1) measures))
   parts =
       is
@@ -22,8 +22,12 @@ module _ (tell : Compared → Verdict) (n : ℕ) (measures : List Measure) (k : 
 
   pub verdicts_fit : count ≤ length rest
   verdicts_fit =
-      omega (arith, ap length parts, size,
-        length-append (map tell (pairs_of n m)) (map tell (flat_map (pairs_of n) (drop (k + 1) measures))))
+      omega (
+        arith,
+        ap length parts,
+        size,
+        length-append (map tell (pairs_of n m)) (map tell (flat_map (pairs_of n) (drop (k + 1) measures))),
+      )
 
   pub verdicts_here : take count rest ≡ map tell (pairs_of n m)
   verdicts_here =

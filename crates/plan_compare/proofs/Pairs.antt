@@ -37,10 +37,10 @@ twice_pairs n m (suc k) h =
     let before = twice_pairs n m k (omega arith) in
     let next : length (flat_map (pairs_from n m) (range_with_len 0 (suc k))) ≡ length (flat_map (pairs_from n m) (range_with_len 0 k)) + (n - (k + 1)) =
     (let e : suc k ≡ k + 1 = omega arith in
-      ap (λ j. length (flat_map (pairs_from n m) (range_with_len 0 j))) e
-      ∙ ap length (numbers_next (pairs_from n m) k)
-      ∙ length-append (flat_map (pairs_from n m) (range_with_len 0 k)) (pairs_from n m k)
-      ∙ ap (λ j. length (flat_map (pairs_from n m) (range_with_len 0 k)) + j) (pairs_from-length n m k)) in
+    ap (λ j. length (flat_map (pairs_from n m) (range_with_len 0 j))) e
+    ∙ ap length (numbers_next (pairs_from n m) k)
+    ∙ length-append (flat_map (pairs_from n m) (range_with_len 0 k)) (pairs_from n m k)
+    ∙ ap (λ j. length (flat_map (pairs_from n m) (range_with_len 0 k)) + j) (pairs_from-length n m k)) in
     let square : suc k * suc k ≡ k * k + 2 * k + 1 = grind arith in
     let times : n * suc k ≡ n * k + n = grind arith in
     omega (arith, before, next, square, times)
@@ -93,4 +93,4 @@ pub told_next : {A : Type 0} (tell : Compared → A) (m : Measure) (a b : ℕ) (
 told_next tell m a b old list new x h e f g =
     gained old list (map tell (pairs_from b m a)) (x ∷ []) (map tell (pairs_from (b + 1) m a)) new e f
     (ap (map tell) (pairs_from-next m a b h) ∙ map-append tell (pairs_from b m a) (pair m a b ∷ [])
-      ∙ ap (λ y. map tell (pairs_from b m a) ++ y ∷ []) (sym g))
+    ∙ ap (λ y. map tell (pairs_from b m a) ++ y ∷ []) (sym g))

@@ -67,6 +67,7 @@ same_measure m e h w = by (is_of_region e) refl
   where
     looked : measure_named (word_of e) ≡ Some m
     looked = ap measure_named w ∙ named m h
+
     by : (b : Bool) → is_of_region e ≡ b → e ≡ m
     by true t = same_Some e m (sym (named e t) ∙ looked)
     by false t = absurd (none-some m (sym (unnamed e t) ∙ looked))
@@ -167,7 +168,7 @@ module _ (p : PlanParts) (order : WordOrder) (items : List Ends) where
       let parts = parts_from p order (ends_at items) in
       of_dispatches measure.Interdistrict
       (any_before measure.Interdistrict (fractions_of p parts ++ interdistrict_of p parts) (travel_times_of p parts)
-        (any_behind measure.Interdistrict (fractions_of p parts) (interdistrict_of p parts) refl))
+      (any_behind measure.Interdistrict (fractions_of p parts) (interdistrict_of p parts) refl))
   listed l e measure.Travel h =
       let parts = parts_from p order (ends_at items) in
       of_dispatches measure.Travel (any_behind measure.Travel (fractions_of p parts ++ interdistrict_of p parts) (travel_times_of p parts) refl)
@@ -190,9 +191,11 @@ region_contained p order items x z m region each = by (has_value m (measures_of 
   where
     list : List Enclosed
     list = measures_of p order items
+
     nothing : (b : Bool) → is_on p.line m ≡ b → has_value m list ≡ false → ContainsRatio 0 0 (scale_of m) (measure_of p x z m)
     nothing true o h = absurd (let some = listed p order items p.line refl m o in cc)
     nothing false o h = rw (lacking p x z p.line refl m region o) (record { least = omega arith; most = omega arith })
+
     by : (b : Bool) → has_value m list ≡ b → ContainsRatio (value_in m list).lo (value_in m list).hi (scale_of m) (measure_of p x z m)
     by true h = value_contains p x z m region list each h
     by false h =

@@ -36,4 +36,4 @@ one_more plans k plan found list all h e before this g =
     ap (λ p. take k plans ++ p ∷ []) e ∙ sym (take_more plans k plan h) in
     subst (λ ps. AllZip is ps all) both
     (subst (λ lists. AllZip is (take k plans ++ plan ∷ []) lists) (sym g)
-      (AllZip-append is (take k plans) (plan ∷ []) found (list ∷ []) before (this, tt)))
+    (AllZip-append is (take k plans) (plan ∷ []) found (list ∷ []) before (this, tt)))

@@ -1,5 +1,5 @@
 -- Where the ends of two plans are apart, so are the measures of all their solutions.
-use Rattle.std.proofs.Common.{◌≡◌, ℕ, ◌+◌, ◌*◌, ◌≤◌, ◌<◌, ◌∙◌, sym, ap, refl, subst, arith, Bool, true, false, List, [], ◌∷◌, ◌++◌, length, map, Option, Some}
+use Rattle.std.proofs.Common.{◌≡◌, ℕ, ◌+◌, ◌*◌, ◌≤◌, ◌<◌, ◌∙◌, sym, ap, refl, subst, arith, Bool, true, false, List, [], ◌∷◌, ◌++◌, length, get_or, map, Option, Some}
 use Rattle.std.specs.Prelude.{All, if◌then◌else◌, nat_lt, option_map, slice_get}
 use Rattle.std.specs.List.{flat_map, range_with_len}
 use Rattle.std.proofs.Math.Nat.{lt_of_mul-lt-mul_left, mul-le-mul_right, mul-pos}
@@ -18,7 +18,7 @@ use Rattle.report_text.specs.Reports.{is_of_region}
 use Rattle.plan_solver.specs.Enclosures.{IsEnclosureOf}
 use Rattle.plan_solver.proofs.AllMeasures.{enclosure_contains}
 use Rattle.plan_compare.specs.Studies.{StudyParts}
-use Rattle.plan_compare.specs.Truth.{AreTrue, IsBelow, IsLess, IsTrueOf}
+use Rattle.plan_compare.specs.Truth.{AreContained, AreTrue, IsBelow, IsLess, IsTrueOf}
 use Rattle.plan_compare.specs.Values.{list_at, value_at, value_in}
 use Rattle.plan_compare.specs.Verdicts.{Compared, all_pairs, pairs_from, pairs_of, verdict_of, verdict_on, verdicts_of}
 use Rattle.plan_compare.specs.declared.values.Value.{Value}
@@ -49,6 +49,11 @@ contained p m found region a e xs z s =
     let each = enclosure_contains p a found e xs z s in
     subst (λ list. ContainsRatio (value_in m list).lo (value_in m list).hi (scale_of m) (measure_of p (mass_in xs) z m)) (sym e.exact)
     (region_contained p e.order e.items (mass_in xs) z m region (subst (λ list. All (IsContained p (mass_in xs) z) list) e.exact each))
+
+pub all_contained : (study : StudyParts) (found : List EnclosureList) → All (λ m. is_of_region m ≡ true) study.measures
+    → AreContained study found
+all_contained study found region place p a e xs z s k d h =
+    contained p (get_or study.measures k d) (list_at found place) (region k d h) a e xs z s
 
 below : (p q : PlanParts) (m : Measure) (found others : List Enclosed) → is_of_region m ≡ true → IsAccepted p → IsAccepted q
     → IsEnclosureOf p found → IsEnclosureOf q others → (value_in m found).hi < (value_in m others).lo → IsBelow m p q
@@ -81,17 +86,17 @@ pairs_region : (study : StudyParts) → All (λ m. is_of_region m ≡ true) stud
 pairs_region study region =
     all_flat (λ m. is_of_region m ≡ true) (λ c. is_of_region c.measure ≡ true) (pairs_of (length study.plans))
     (λ m h. all_flat (λ _. is_of_region m ≡ true) (λ c. is_of_region c.measure ≡ true) (pairs_from (length study.plans) m)
-      (λ a g. All-map (λ c. is_of_region c.measure ≡ true) (λ b. record { measure = m; first = a; second = b }) (range_with_len (a + 1) _) (λ k d l. g))
-      (range_with_len 0 (length study.plans)) (λ k d l. h))
+    (λ a g. All-map (λ c. is_of_region c.measure ≡ true) (λ b. record { measure = m; first = a; second = b }) (range_with_len (a + 1) _) (λ k d l. g))
+    (range_with_len 0 (length study.plans)) (λ k d l. h))
     study.measures region
 
 pub all_true : (study : StudyParts) (found : List EnclosureList) (verdicts : List Verdict) → All (λ m. is_of_region m ≡ true) study.measures
     → verdicts ≡ verdicts_of study found → AreTrue study found verdicts
 all_true study found verdicts region is k c v at_c at_v p q a b e f =
     let same : verdict_of found c ≡ v = same_Some (verdict_of found c) v
-      (sym (slice_get-map (verdict_of found) (all_pairs study) k ∙ ap (option_map (verdict_of found)) at_c) ∙ ap (λ vs. slice_get vs k) (sym is) ∙ at_v) in
+    (sym (slice_get-map (verdict_of found) (all_pairs study) k ∙ ap (option_map (verdict_of found)) at_c) ∙ ap (λ vs. slice_get vs k) (sym is) ∙ at_v) in
     let of_region = rw (get_or_from_slice_get (all_pairs study) k c c at_c) at (pairs_region study region k c (slice_get_within (all_pairs study) k c at_c)) in
     subst (IsTrueOf c.measure p q) same
     (verdict_true c.measure p q (value_at found c.measure c.first) (value_at found c.measure c.second)
-      (λ apart. below p q c.measure (list_at found c.first) (list_at found c.second) of_region a b e f apart)
-      (λ apart. below q p c.measure (list_at found c.second) (list_at found c.first) of_region b a f e apart))
+    (λ apart. below p q c.measure (list_at found c.first) (list_at found c.second) of_region a b e f apart)
+    (λ apart. below q p c.measure (list_at found c.second) (list_at found c.first) of_region b a f e apart))

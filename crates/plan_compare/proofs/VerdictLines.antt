@@ -39,9 +39,9 @@ line_next m a k verdicts d old text new h e f =
     gained old text (verdict_lines (pairs_from (a + 1 + k) m a) (take k verdicts)) (verdict_line (pair m a (a + 1 + k)) (get_or verdicts k d))
     (verdict_lines (pairs_from (a + 1 + (k + 1)) m a) (take (k + 1) verdicts)) new e f
     (ap (λ j. verdict_lines (pairs_from j m a) (take (k + 1) verdicts)) n
-      ∙ ap (λ cs. verdict_lines cs (take (k + 1) verdicts)) (pairs_from-next m a (a + 1 + k) (omega arith))
-      ∙ ap (λ vs. verdict_lines (pairs_from (a + 1 + k) m a ++ pair m a (a + 1 + k) ∷ []) vs) (take_more verdicts k d h)
-      ∙ verdict_lines-one (pairs_from (a + 1 + k) m a) (pair m a (a + 1 + k)) (take k verdicts) (get_or verdicts k d) before)
+    ∙ ap (λ cs. verdict_lines cs (take (k + 1) verdicts)) (pairs_from-next m a (a + 1 + k) (omega arith))
+    ∙ ap (λ vs. verdict_lines (pairs_from (a + 1 + k) m a ++ pair m a (a + 1 + k) ∷ []) vs) (take_more verdicts k d h)
+    ∙ verdict_lines-one (pairs_from (a + 1 + k) m a) (pair m a (a + 1 + k)) (take k verdicts) (get_or verdicts k d) before)
 
 -- the lines of one more plan with all behind it
 pub lines_next : (n : ℕ) (m : Measure) (a : ℕ) (rest here later : List Verdict) (text new whole : List ℕ) → a < n
@@ -55,6 +55,6 @@ lines_next n m a rest here later text new whole h size e f g =
     moved text (verdict_lines (pairs_from n m a) here) (verdict_lines (flat_map (pairs_from n m) (range_with_len a (n - a))) rest)
     (verdict_lines behind later) new whole
     (ap (λ cs. verdict_lines cs rest) (pairs_left n m a h)
-      ∙ ap (λ vs. verdict_lines (pairs_from n m a ++ behind) vs) e
-      ∙ verdict_lines-append (pairs_from n m a) behind here later (pairs_from-length n m a ∙ sym size))
+    ∙ ap (λ vs. verdict_lines (pairs_from n m a ++ behind) vs) e
+    ∙ verdict_lines-append (pairs_from n m a) behind here later (pairs_from-length n m a ∙ sym size))
     (f ∙ ap (λ j. text ++ verdict_lines (pairs_from j m a) here) all) g

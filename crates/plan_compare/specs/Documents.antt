@@ -49,7 +49,7 @@ both names words = None
 abbrev pub texts_of : Members → Option StudyTexts
 texts_of members =
     if key_count members == 2 then
-      option_and_then if_in_form (both (strings_at (codes "plans") members) (strings_at (codes "measures") members))
+    option_and_then if_in_form (both (strings_at (codes "plans") members) (strings_at (codes "measures") members))
     else None
 
 -- the texts in these bytes, if they are a document of this form

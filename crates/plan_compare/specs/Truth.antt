@@ -1,17 +1,28 @@
--- What a verdict says of two plans, and that each is true.
-use Rattle.std.specs.Prelude.{◌≡◌, ℕ, ◌*◌, ◌<◌, List, Some, slice_get}
+-- What values and verdicts say of the plans of a study.
+use Rattle.std.specs.Prelude.{◌≡◌, ℕ, ◌*◌, ◌<◌, List, All, Some, slice_get}
 use Rattle.hyper_model.specs.Enclosures.{EnclosureList}
-use Rattle.hyper_model.specs.Measures.{Ratio, measure_of}
+use Rattle.hyper_model.specs.Measures.{ContainsRatio, Ratio, measure_of, scale_of}
 use Rattle.hyper_model.specs.Plans.{IsAccepted}
 use Rattle.hyper_model.specs.Solutions.{IsSolution, mass_in}
 use Rattle.hyper_model.specs.declared.kinds.Measure.{Measure}
 use Rattle.hyper_model.specs.declared.parts.PlanParts.{PlanParts}
 use Rattle.plan_solver.specs.Enclosures.{IsEnclosureOf}
 use Rattle.plan_compare.specs.Studies.{StudyParts}
-use Rattle.plan_compare.specs.Values.{list_at}
+use Rattle.plan_compare.specs.Values.{list_at, value_at}
 use Rattle.plan_compare.specs.Verdicts.{Compared, all_pairs}
 use Rattle.plan_compare.specs.declared.verdict_list.Verdict.{Verdict}
 use Rattle.plan_compare.specs.declared.verdict_list.Verdict.TheVariants as verdict
+
+-- of each accepted plan that the list at a place encloses, the values there contain the measures of all solutions
+abbrev pub AreContained : StudyParts → List EnclosureList → Type 0
+AreContained study found =
+    (place : ℕ) (p : PlanParts) → IsAccepted p → IsEnclosureOf p (list_at found place)
+    → (xs : List ℕ) (z : ℕ) → IsSolution p xs z
+    → All
+    (λ m.
+    ContainsRatio (value_at found m place).lo (value_at found m place).hi (scale_of m)
+    (measure_of p (mass_in xs) z m))
+    study.measures
 
 -- by cross-multiplication
 abbrev pub IsLess : Ratio → Ratio → Type 0

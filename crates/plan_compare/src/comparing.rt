@@ -90,11 +90,7 @@ fn push_measure(
     push_verdicts(text, measure, found.len(), verdicts)
 }
 
-fn push_values(
-    text: &mut Vec<u8>,
-    measure: Measure,
-    found: &[Enclosures],
-) -> Result<(), AllocError>
+fn push_values(text: &mut Vec<u8>, measure: Measure, found: &[Enclosures]) -> Result<(), AllocError>
     requires { length found.now ≤ 16 }
     ensures { IfOk result (λ _. text.new.items ≡ text.old.items ++ value_lines found.now measure) }
 {

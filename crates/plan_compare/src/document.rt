@@ -74,7 +74,9 @@ fn is_in_form(names: &[String], words: &[String]) -> bool
 fn have_name_length(names: &[String]) -> bool
     ensures { result ≡ list_all (λ name. has_name_length (string_bytes name)) names.now }
 {
-    names.iter().all(|name| is_within(1, 255, name.as_bytes().len()))
+    names
+        .iter()
+        .all(|name| is_within(1, 255, name.as_bytes().len()))
 }
 
 /// Whether a number lies between these two, or is one of them.

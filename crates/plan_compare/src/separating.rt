@@ -1,5 +1,5 @@
 ghost use Rattle.std.specs.Prelude.{◌≡◌, ◌+◌, ◌-◌, ◌<◌, ◌≤◌, [], ◌++◌, length, map};
-ghost use Rattle.plan_compare.specs.Truth.{AreTrue};
+ghost use Rattle.plan_compare.specs.Truth.{AreContained, AreTrue};
 ghost use Rattle.plan_compare.specs.Verdicts as spec;
 ghost use Rattle.plan_compare.specs.Verdicts.{all_pairs, pairs_from, pairs_of, verdict_of, verdicts_of};
 
@@ -10,12 +10,14 @@ use hyper_model::{Enclosures, Measure};
 /// The verdicts of a study over the lists of its plans' measures, in the order of the plans.
 ///
 /// For each measure each two plans are compared, by the place of the first and then by that of the second. Where the
-/// lists are those of accepted plans, a verdict holds for whichever solutions of the two plans' balance equations.
+/// lists are those of accepted plans, each pair of ends contains its measure for every solution of the plan's balance
+/// equations, and a verdict holds for whichever solutions of the two plans.
 pub fn verdicts(study: &Study, found: &[Enclosures], out: &mut VerdictList)
     requires one_each { length found.now ≡ length study.now.plans }
     requires empty { out.old.items ≡ [] }
     requires room { length (all_pairs study.now) ≤ out.old.spare }
     ensures exact { out.new.items ≡ verdicts_of study.now found.now }
+    ensures contained { AreContained study.now found.now }
     ensures proved { AreTrue study.now found.now out.new.items }
 {
     for k in 0..study.measures() {

@@ -20,8 +20,8 @@ push_measure-requires-clause-verdicts c =
     let m = c.measure-measure.result in
     c.split_at.ensures.front
     ∙ verdicts_here (verdict_of found) (length found) c.args.study.now.measures c.loop-k.k m c.measure-measure.ensures.measure c.loop-k.rest.now
-      c.loop-k.invariant.rest c.pair_count-count.result
-      (c.pair_count-count.ensures.pairs m ∙ ap (λ n. length (pairs_of n m)) (c.plans.ensures.number ∙ sym c.requires.one_each))
+    c.loop-k.invariant.rest c.pair_count-count.result
+    (c.pair_count-count.ensures.pairs m ∙ ap (λ n. length (pairs_of n m)) (c.plans.ensures.number ∙ sym c.requires.one_each))
 
 pub loop-k-preserved : goal.loop-k-preserved
 loop-k-preserved c =
@@ -33,9 +33,9 @@ loop-k-preserved c =
     record {
       rest = c.split_at.ensures.back
           ∙ verdicts_later (verdict_of found) (length found) measures k m c.measure-measure.ensures.measure c.loop-k.rest.now
-            c.loop-k.invariant.rest c.pair_count-count.result
-            (c.pair_count-count.ensures.pairs m ∙ ap (λ n. length (pairs_of n m)) (c.plans.ensures.number ∙ sym c.requires.one_each));
+          c.loop-k.invariant.rest c.pair_count-count.result
+          (c.pair_count-count.ensures.pairs m ∙ ap (λ n. length (pairs_of n m)) (c.plans.ensures.number ∙ sym c.requires.one_each));
       text = gained c.args.text.now.items c.loop-k.text.items (flat_map lines (take k measures)) (lines m)
           (flat_map lines (take (k + 1) measures)) c.push_measure.new.text.items c.loop-k.invariant.text c.in_ok-push_measure.ensures
-          (piece_next lines measures k m c.measure-measure.ensures.measure)
+          (piece_next lines measures k m c.measure-measure.ensures.measure);
     }

@@ -7,5 +7,5 @@ use Rattle.plan_compare.proofs.comparing.push_measures.Given as goal
 abbrev pub invariant-loop-k : goal.invariant-loop-k
 invariant-loop-k l = record {
   rest : l.rest ≡ map (verdict_of l.found) (flat_map (pairs_of (length l.found)) (drop l.k l.study.measures));
-  text : l.text.items ≡ l.fn.text.items ++ flat_map (measure_lines l.found) (take l.k l.study.measures)
+  text : l.text.items ≡ l.fn.text.items ++ flat_map (measure_lines l.found) (take l.k l.study.measures);
 }

@@ -20,5 +20,5 @@ loop-a-preserved c =
     record {
       number = omega (arith, pairs_left-length n c.args.measure a c.loop-a-test.true, c.loop-a.invariant.number, c.split_at.ensures.back_len);
       text = lines_next n c.args.measure a rest here later c.loop-a.text.items c.push_verdicts_from.new.text.items _ c.loop-a-test.true
-          (c.split_at.ensures.front_len ∙ omega arith) both c.in_ok-push_verdicts_from.ensures c.loop-a.invariant.text
+          (c.split_at.ensures.front_len ∙ omega arith) both c.in_ok-push_verdicts_from.ensures c.loop-a.invariant.text;
     }

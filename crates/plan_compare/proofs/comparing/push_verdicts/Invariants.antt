@@ -8,5 +8,5 @@ abbrev pub invariant-loop-a : goal.invariant-loop-a
 invariant-loop-a l = record {
   number : length l.rest ≡ length (flat_map (pairs_from l.plans l.measure) (range_with_len l.a (l.plans - l.a)));
   text : l.text.items ++ verdict_lines (flat_map (pairs_from l.plans l.measure) (range_with_len l.a (l.plans - l.a))) l.rest
-      ≡ l.fn.text.items ++ verdict_lines (pairs_of l.plans l.measure) l.verdicts
+      ≡ l.fn.text.items ++ verdict_lines (pairs_of l.plans l.measure) l.verdicts;
 }

@@ -18,4 +18,4 @@ returns c =
     let test = rw (c.deref.ensures.value, c.deref-2.ensures.value) at c.is_in_form.ensures in
     rw c.if-not-is_in_form.false at
     (texts_of_both (table_view c.args.table.now) (map string_bytes c.in_ok-names.names.items) (map string_bytes c.in_ok-words.words.items)
-      c.is_in_form.result two c.in_ok-names.ensures c.in_ok-words.ensures test)
+    c.is_in_form.result two c.in_ok-names.ensures c.in_ok-words.ensures test)

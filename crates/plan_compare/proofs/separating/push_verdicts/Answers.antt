@@ -9,8 +9,13 @@ use Rattle.plan_compare.proofs.separating.push_verdicts.Goals as goal
 pub push_verdicts_from-requires-clause-room : goal.push_verdicts_from-requires-clause-room
 push_verdicts_from-requires-clause-room c =
     let n = length c.args.found.now in
-    omega (arith, range_fits (pairs_from n c.args.measure) n c.loop-a.a c.loop-a-test.true, pairs_from-length n c.args.measure c.loop-a.a,
-      c.loop-a.invariant.spare, c.requires)
+    omega (
+      arith,
+      range_fits (pairs_from n c.args.measure) n c.loop-a.a c.loop-a-test.true,
+      pairs_from-length n c.args.measure c.loop-a.a,
+      c.loop-a.invariant.spare,
+      c.requires,
+    )
 
 pub loop-a-preserved : goal.loop-a-preserved
 loop-a-preserved c =
@@ -24,6 +29,12 @@ loop-a-preserved c =
       items = gained c.args.out.now.items c.loop-a.out.items (map tell done) (map tell (pairs a))
           (map tell (flat_map pairs (range_with_len 0 (a + 1)))) c.push_verdicts_from.new.out.items c.loop-a.invariant.items
           c.push_verdicts_from.ensures.items (ap (map tell) next ∙ map-append tell done (pairs a));
-      spare = omega (arith, ap length next, length-append done (pairs a), pairs_from-length n c.args.measure a, c.loop-a.invariant.spare,
-        c.push_verdicts_from.ensures.spare)
+      spare = omega (
+        arith,
+        ap length next,
+        length-append done (pairs a),
+        pairs_from-length n c.args.measure a,
+        c.loop-a.invariant.spare,
+        c.push_verdicts_from.ensures.spare,
+      );
     }

@@ -7,5 +7,5 @@ abbrev pub invariant-loop-a : goal.invariant-loop-a
 invariant-loop-a l = record {
   items : l.out.items
       ≡ l.fn.out.items ++ map (verdict_of l.found) (flat_map (pairs_from (length l.found) l.measure) (range_with_len 0 l.a));
-  spare : l.out.spare + length (flat_map (pairs_from (length l.found) l.measure) (range_with_len 0 l.a)) ≡ l.fn.out.spare
+  spare : l.out.spare + length (flat_map (pairs_from (length l.found) l.measure) (range_with_len 0 l.a)) ≡ l.fn.out.spare;
 }

@@ -12,7 +12,7 @@ loop-b-preserved c =
       items = told_next (verdict_of found) m c.args.a c.loop-b.b c.args.out.now.items c.loop-b.out.items c.push.new.self.items
           c.verdict_on.result (omega arith) c.loop-b.invariant.items c.push.ensures.items
           (c.verdict_on.ensures
-            ∙ ap (λ v. verdict_on v c.value_at.result) c.value_at-first.ensures.value
-            ∙ ap (verdict_on (value_at found m c.args.a)) c.value_at.ensures.value);
-      spare = omega arith
+          ∙ ap (λ v. verdict_on v c.value_at.result) c.value_at-first.ensures.value
+          ∙ ap (verdict_on (value_at found m c.args.a)) c.value_at.ensures.value);
+      spare = omega arith;
     }

@@ -3,7 +3,7 @@ use Rattle.std.specs.List.{flat_map}
 use Rattle.std.proofs.lemmas.List.{map-append, take_all}
 use Rattle.plan_compare.specs.Verdicts.{pairs_of, verdict_of}
 use Rattle.plan_compare.proofs.Pieces.{piece_fits, piece_next}
-use Rattle.plan_compare.proofs.TrueVerdicts.{all_true}
+use Rattle.plan_compare.proofs.TrueVerdicts.{all_contained, all_true}
 use Rattle.plan_compare.proofs.separating.verdicts.Goals as goal
 
 pub push_verdicts-requires : goal.push_verdicts-requires
@@ -23,7 +23,7 @@ loop-k-preserved c =
       items = c.push_verdicts.ensures.items
           ∙ ap (λ ys. ys ++ map tell (pairs c.measure.result)) c.loop-k.invariant.items
           ∙ sym (ap (map tell) next ∙ map-append tell done (pairs c.measure.result));
-      spare = omega (arith, ap length next, length-append done (pairs c.measure.result), c.loop-k.invariant.spare, c.push_verdicts.ensures.spare)
+      spare = omega (arith, ap length next, length-append done (pairs c.measure.result), c.loop-k.invariant.spare, c.push_verdicts.ensures.spare);
     }
 
 pub returns-clause-proved : goal.returns-clause-proved
@@ -34,5 +34,8 @@ returns-clause-proved c =
     let all : take c.loop-k.k measures ≡ measures = take_all c.loop-k.k measures (omega (arith, c.measures-k-end.ensures.number)) in
     all_true c.args.study.now found c.loop-k.out.items c.measures-k-end.ensures.region
     (c.loop-k.invariant.items
-      ∙ ap (λ ms. map tell (flat_map (pairs_of (length found)) ms)) all
-      ∙ ap (λ n. map tell (flat_map (pairs_of n) measures)) c.requires.one_each)
+    ∙ ap (λ ms. map tell (flat_map (pairs_of (length found)) ms)) all
+    ∙ ap (λ n. map tell (flat_map (pairs_of n) measures)) c.requires.one_each)
+
+pub returns-clause-contained : goal.returns-clause-contained
+returns-clause-contained c = all_contained c.args.study.now c.args.found.now c.measures-k-end.ensures.region

@@ -36,7 +36,7 @@ loop-place-preserved c =
       measures = items ∙ ap (λ ys. ys ++ c.in-Some.measure ∷ []) c.loop-place.invariant.measures
           ∙ sym (filter_map_next measure_named texts [] place c.in-Some.measure inside some);
       number = ap length items ∙ omega (arith, length_push c.loop-place.measures.items c.in-Some.measure);
-      region = rw items (All-push (λ m. is_of_region m ≡ true) _ _ c.loop-place.invariant.region c.in-Some.ensures.region)
+      region = rw items (All-push (λ m. is_of_region m ≡ true) _ _ c.loop-place.invariant.region c.in-Some.ensures.region);
     }
 
 pub returns-clause-known : goal.returns-clause-known

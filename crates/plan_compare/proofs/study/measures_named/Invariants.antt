@@ -9,5 +9,5 @@ invariant-loop-place l = record {
   known : (k : ℕ) → k < l.place → is_some (measure_named (get_or (map string_bytes l.words) k [])) ≡ true;
   measures : l.measures.items ≡ filter_map measure_named (take l.place (map string_bytes l.words));
   number : length l.measures.items ≡ l.place;
-  region : All (λ m. is_of_region m ≡ true) l.measures.items
+  region : All (λ m. is_of_region m ≡ true) l.measures.items;
 }

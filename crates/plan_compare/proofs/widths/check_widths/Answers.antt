@@ -10,7 +10,7 @@ returns-in_err-check_plan-clause-wide c =
     let here : first_wide_of c.args.widths found (all_asked c.args.study.now) ≡ Some c.in_err-check_plan.field-0.0 =
     c.loop-place.invariant
     ∙ plan_here c.args.widths found c.args.study.now.measures (length found) c.loop-place.place c.in_err-check_plan.field-0.0 within
-      c.in_err-check_plan.ensures.wide in
+    c.in_err-check_plan.ensures.wide in
     search (rules, here)
 
 pub loop-place-preserved : goal.loop-place-preserved

@@ -9,4 +9,4 @@ returns-clause-length c =
     let within = rw (← c.self.view_is) at c.requires in
     rw c.as_str.ensures.value
     (name_between names c.args.i c.index.result.now c.self.invariant.named (omega (arith, length-map names string_bytes, within))
-      c.index.ensures)
+    c.index.ensures)

@@ -7,4 +7,4 @@ pub returns-clause-spare : goal.returns-clause-spare
 returns-clause-spare c =
     ap (λ k. k * c.pair_count.result) c.measures.ensures.number
     ∙ sym (all_pairs-length c.args.study.now c.pair_count.result
-      (λ m. c.pair_count.ensures.pairs m ∙ ap (λ k. length (pairs_of k m)) c.plans.ensures.number))
+    (λ m. c.pair_count.ensures.pairs m ∙ ap (λ k. length (pairs_of k m)) c.plans.ensures.number))
