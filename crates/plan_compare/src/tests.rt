@@ -8,7 +8,9 @@ use hyper_model::{
 use rate_matrix::OpenGate;
 use report_text::Widths;
 use std::alloc::{AllocError, Global};
+use std::process::Abort;
 use std::test::Fail;
+use std::thread::Threads;
 
 /// The refusal of a text, which gives no study.
 fn refusal_of(alloc: Global, text: &[u8]) -> Option<StudyRefusal> {
@@ -358,15 +360,15 @@ const LOSSES: [(u32, u32, u64, u64); 5] = [
 ];
 
 /// Finds the losses of the plans above by so many workers.
-fn check_losses(rt: &HostRuntime, workers: u32) -> Result<(), Fail>
+fn check_losses<R: Threads + Sync + Abort>(rt: &R, alloc: Global, workers: u32) -> Result<(), Fail>
     requires some { 1 ≤ workers }
     requires most { workers ≤ 16 }
 {
-    let mut plans = Vec::new(rt.alloc());
+    let mut plans = Vec::new(alloc);
     for (service, calls, _, _) in LOSSES {
-        plans.push(plan_of(rt.alloc(), service, calls)?)?;
+        plans.push(plan_of(alloc, service, calls)?)?;
     }
-    let found = enclose_all(rt, rt.alloc(), &plans, workers, &OpenGate)?;
+    let found = enclose_all(rt, alloc, &plans, workers, &OpenGate)?;
     assert_eq!(rt; found.len(), 5);
     for (list, (_, _, lo, hi)) in found.iter().zip(LOSSES) {
         assert!(rt; !list.is_empty());
@@ -382,7 +384,7 @@ fn check_losses(rt: &HostRuntime, workers: u32) -> Result<(), Fail>
 #[test]
 fn every_number_of_workers_finds_the_same(rt: HostRuntime) -> Result<(), Fail> {
     for workers in 1..17 {
-        check_losses(&rt, workers)?;
+        check_losses(&rt, rt.alloc(), workers)?;
     }
     Ok(())
 }
