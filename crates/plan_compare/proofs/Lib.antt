@@ -1,0 +1,14 @@
+-- lemmas, each file on one subject
+pub mod Documents
+pub mod FirstPlaces
+pub mod StudyForms
+pub mod StudySteps
+pub mod Pieces
+pub mod Pairs
+pub mod MeasureLines
+pub mod ValueSteps
+pub mod VerdictLines
+pub mod WideValues
+pub mod RegionValues
+pub mod TrueVerdicts
+pub mod SolvedPlans
