@@ -1,19 +1,22 @@
 -- How a run ends, by what its command came to and by what was written.
 use Rattle.std.proofs.Common.{◌≡◌, ℕ, inl, inr, Bool, List, [], refl, sym, ◌∙◌, append-nil}
-use Rattle.std.specs.Prelude.{Option, Some, None, Result, Ok, Err, IfSome}
+use Rattle.std.specs.Prelude.{Option, Some, None, Result, Ok, Err, All, Contains, IfSome, IsSome}
 use Rattle.std.specs.Io.KnownBytes.{Appends, Keeps}
+use Rattle.hyper_model.specs.Plans.{IsAccepted}
 use Rattle.hyper_model.specs.declared.parts.PlanParts.{PlanParts}
 use Rattle.outer_world.specs.declared.named_text.NamedText.{NamedText}
 use Rattle.report_text.specs.declared.ending.Widths.{Widths}
+use Rattle.plan_compare.specs.Studies.{StudyParts}
 use Rattle.command_words.specs.declared.command.Command.{Command}
 use Rattle.command_words.specs.declared.command.Command.TheVariants as command
 use Rattle.hypercube_cli.specs.declared.outcome.Outcome.{Outcome}
 use Rattle.hypercube_cli.specs.declared.outcome.Outcome.TheVariants as outcome
 use Rattle.hypercube_cli.specs.declared.stop.Stop.{Stop}
 use Rattle.hypercube_cli.specs.declared.stop.Stop.TheVariants as stop
-use Rattle.hypercube_cli.specs.Endings.{Ending, absent_ending, refused_ending, usage_ending}
-use Rattle.hypercube_cli.specs.Readings.{Reaches, StopsAt, plan_at}
-use Rattle.hypercube_cli.specs.Runs.{Answers, Finishes, FinishesStopped, IsEndingOf, IsProved, RunsCommand, WritesProved}
+use Rattle.hypercube_cli.specs.Endings.{Ending, absent_ending, refused_ending}
+use Rattle.hypercube_cli.specs.Readings.{StopsAt, plan_at, plans_from, study_at}
+use Rattle.hypercube_cli.specs.Runs.{Answers, Finishes, FinishesStopped, IsAskedBy, IsEndingOf, IsProved, RunsCommand, WritesProved}
+use Rattle.hypercube_cli.specs.Comparing.{AreCompared, IsCompared, IsStudied, IsTrueComparison}
 use Rattle.hypercube_cli.specs.Solving.{IsProvedReport, IsReported, IsSolved}
 
 pub keeps_known : (known : Option (List ℕ)) → Keeps known known
@@ -114,3 +117,81 @@ pub stop_proved : (told : Option (List NamedText)) (c : Command) (s : Stop) (res
     → IfSome told (λ texts. result ≡ outcome.Done → WritesProved (Some c) texts before after)
 stop_proved None c s result before after finishes = tt
 stop_proved (Some texts) c s result before after finishes = λ done. absurd (stop_not_done s result before after finishes done)
+
+-- the same of a study
+pub stop_studies : (texts : List NamedText) (given : Result StudyParts Ending) (widths : Widths) (ending : Ending)
+    → given ≡ Err ending → IsStudied texts given widths ending
+stop_studies texts (Ok study) widths ending is = absurd (cc)
+stop_studies texts (Err e) widths ending is = let same : e ≡ ending = cc in sym same
+
+pub stops_reading_study : (told : Option (List NamedText)) (study : List ℕ) (widths : Widths) (workers : ℕ) (s : Stop)
+    → IfSome told (λ texts. StopsAt (study_at texts study) s)
+    → IfSome told (λ texts. Answers (command.Compare study widths workers) texts (Err s))
+stops_reading_study None study widths workers s is = tt
+stops_reading_study (Some texts) study widths workers (stop.Refused r) is =
+    stop_studies texts (study_at texts study) widths (refused_ending r) is
+stops_reading_study (Some texts) study widths workers (stop.Absent place) is =
+    stop_studies texts (study_at texts study) widths (absent_ending place) is
+stops_reading_study (Some texts) study widths workers stop.ReadFault is = tt
+stops_reading_study (Some texts) study widths workers stop.NoMemory is = tt
+
+stop_compares : (given : Result (List PlanParts) Ending) (study : StudyParts) (widths : Widths) (ending : Ending)
+    → given ≡ Err ending → AreCompared given study widths ending
+stop_compares (Ok plans) study widths ending is = absurd (cc)
+stop_compares (Err e) study widths ending is = let same : e ≡ ending = cc in sym same
+
+studied : (texts : List NamedText) (name : List ℕ) (study : StudyParts) (widths : Widths) (ending : Ending)
+    → study_at texts name ≡ Ok study → AreCompared (plans_from texts 1 study.plans) study widths ending
+    → IsStudied texts (study_at texts name) widths ending
+studied texts name study widths ending is compared = rw is compared
+
+pub stops_reading_plans : (told : Option (List NamedText)) (name : List ℕ) (study : StudyParts) (widths : Widths) (workers : ℕ) (s : Stop)
+    → IfSome told (λ texts. study_at texts name ≡ Ok study)
+    → IfSome told (λ texts. StopsAt (plans_from texts 1 study.plans) s)
+    → IfSome told (λ texts. Answers (command.Compare name widths workers) texts (Err s))
+stops_reading_plans None name study widths workers s is stops = tt
+stops_reading_plans (Some texts) name study widths workers (stop.Refused r) is stops =
+    studied texts name study widths (refused_ending r) is
+    (stop_compares (plans_from texts 1 study.plans) study widths (refused_ending r) stops)
+stops_reading_plans (Some texts) name study widths workers (stop.Absent place) is stops =
+    studied texts name study widths (absent_ending place) is
+    (stop_compares (plans_from texts 1 study.plans) study widths (absent_ending place) stops)
+stops_reading_plans (Some texts) name study widths workers stop.ReadFault is stops = tt
+stops_reading_plans (Some texts) name study widths workers stop.NoMemory is stops = tt
+
+pub compared_ends : (told : Option (List NamedText)) (name : List ℕ) (study : StudyParts) (widths : Widths) (workers : ℕ)
+    (plans : List PlanParts) (ending : Ending) → IfSome told (λ texts. study_at texts name ≡ Ok study)
+    → IfSome told (λ texts. plans_from texts 1 study.plans ≡ Ok plans) → IsCompared plans study widths ending
+    → IfSome told (λ texts. IsEndingOf (Some (command.Compare name widths workers)) texts ending)
+compared_ends None name study widths workers plans ending is read compared = tt
+compared_ends (Some texts) name study widths workers plans ending is read compared =
+    studied texts name study widths ending is (rw read compared)
+
+pub compared_proved : (told : Option (List NamedText)) (name : List ℕ) (study : StudyParts) (widths : Widths) (workers : ℕ)
+    (plans : List PlanParts) (result : Outcome) (text : List ℕ) → IfSome told (λ texts. study_at texts name ≡ Ok study)
+    → IfSome told (λ texts. plans_from texts 1 study.plans ≡ Ok plans) → All IsAccepted plans
+    → (result ≡ outcome.Done → IsTrueComparison study plans text)
+    → IfSome told (λ texts. result ≡ outcome.Done → IsProved (command.Compare name widths workers) texts text)
+compared_proved None name study widths workers plans result text is read accepted proved = tt
+compared_proved (Some texts) name study widths workers plans result text is read accepted proved = λ done. record {
+  study = study;
+  plans = plans;
+  read = is;
+  plans_read = read;
+  accepted = accepted;
+  compared = proved done;
+}
+
+-- the name of a fault is one that the study asks for
+pub asks_study : (told : Option (List NamedText)) (study : List ℕ) (fault : Option (List ℕ)) → fault ≡ Some study
+    → IfSome told (λ texts. IsAskedBy texts study fault)
+asks_study None study fault is = tt
+asks_study (Some texts) study None is = absurd (cc)
+asks_study (Some texts) study (Some name) is = let same : name ≡ study = cc in inl same
+
+pub asks_plan : (told : Option (List NamedText)) (name : List ℕ) (study : StudyParts) (fault : Option (List ℕ)) → IsSome fault
+    → IfSome fault (Contains study.plans) → IfSome told (λ texts. study_at texts name ≡ Ok study)
+    → IfSome told (λ texts. IsAskedBy texts name fault)
+asks_plan None name study fault some named is = tt
+asks_plan (Some texts) name study None some named is = absurd (cc)
+asks_plan (Some texts) name study (Some plan) some named is = inr (record { parts = study; read = is; named = named })

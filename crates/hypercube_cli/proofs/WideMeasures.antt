@@ -1,6 +1,6 @@
 -- The measure that is too wide is one of the list.
 use Rattle.std.proofs.Common.{◌≡◌, ℕ, Bool, true, false, cond, List, [], ◌∷◌, All, subst}
-use Rattle.std.specs.Prelude.{Option, Some, None, find}
+use Rattle.std.specs.Prelude.{Option, Some, find}
 use Rattle.std.proofs.lemmas.List.Elements.{All-filter, All-head, All-tail}
 use Rattle.hyper_model.specs.declared.kinds.Enclosed.{Enclosed}
 use Rattle.hyper_model.specs.declared.kinds.Found.TheVariants as found

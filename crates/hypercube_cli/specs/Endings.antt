@@ -1,7 +1,6 @@
 -- How a run ends where nothing outside fails: its outcome, and all that it writes.
 use Rattle.std.specs.Prelude.{ℕ, List, []}
 use Rattle.hyper_model.specs.declared.kinds.Measure.{Measure}
-use Rattle.hyper_model.specs.declared.parts.PlanParts.{PlanParts}
 use Rattle.hypercube_cli.specs.declared.outcome.Outcome.{Outcome}
 use Rattle.hypercube_cli.specs.declared.outcome.Outcome.TheVariants as outcome
 use Rattle.hypercube_cli.specs.declared.outcome.Refusal.{Refusal}
@@ -25,5 +24,5 @@ absent_ending place = record { outcome = outcome.Absent place; text = [] }
 abbrev pub refused_ending : Refusal → Ending
 refused_ending r = record { outcome = outcome.Refused r; text = refusal_line r }
 
-abbrev pub wide_ending : PlanParts → ℕ → Measure → ℕ → ℕ → Ending
-wide_ending p place m lo hi = record { outcome = outcome.TooWide place m lo hi; text = wide_line p place m lo hi }
+abbrev pub wide_ending : List ℕ → ℕ → Measure → ℕ → ℕ → Ending
+wide_ending label place m lo hi = record { outcome = outcome.TooWide place m lo hi; text = wide_line label place m lo hi }

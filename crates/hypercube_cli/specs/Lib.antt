@@ -3,6 +3,7 @@ pub mod Lines
 pub mod Endings
 pub mod Readings
 pub mod Solving
+pub mod Comparing
 pub mod Making
 pub mod Runs
 pub mod Untouched

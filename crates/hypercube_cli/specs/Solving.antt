@@ -7,24 +7,25 @@ use Rattle.hyper_model.specs.declared.kinds.Measure.{Measure}
 use Rattle.hyper_model.specs.declared.parts.PlanParts.{PlanParts}
 use Rattle.hyper_model.specs.Solutions.{HasSolution}
 use Rattle.report_text.specs.declared.ending.Widths.{Widths}
+use Rattle.report_text.specs.Labels.{label_bytes}
 use Rattle.report_text.specs.Reports.{report_bytes}
 use Rattle.report_text.specs.TooWide.{first_wide}
 use Rattle.plan_solver.specs.Enclosures.{ContainsSolutions, IsEnclosureOf}
 use Rattle.hypercube_cli.specs.Endings.{Ending, done_ending, wide_ending}
 
 -- a measure without ends is never too wide
-abbrev pub wide_found : PlanParts → ℕ → Measure → Found → Ending → Ending
-wide_found p place m (found.Ends lo hi) narrow = wide_ending p place m lo hi
-wide_found p place m found.Without narrow = narrow
+abbrev pub wide_found : PlanParts → Measure → Found → Ending → Ending
+wide_found p m (found.Ends lo hi) narrow = wide_ending (label_bytes p m) 1 m lo hi
+wide_found p m found.Without narrow = narrow
 
--- of the plan at this place, the measure that is too wide, or this ending where none is
-abbrev pub unless_wide : PlanParts → ℕ → Option Enclosed → Ending → Ending
-unless_wide p place None narrow = narrow
-unless_wide p place (Some e) narrow = wide_found p place e.measure e.found narrow
+-- the measure that is too wide, or this ending where none is
+abbrev pub unless_wide : PlanParts → Option Enclosed → Ending → Ending
+unless_wide p None narrow = narrow
+unless_wide p (Some e) narrow = wide_found p e.measure e.found narrow
 
 abbrev pub report_ending : PlanParts → Widths → Bool → List Enclosed → Ending
 report_ending p widths summary items =
-    unless_wide p 1 (first_wide widths summary items) (done_ending (report_bytes p items summary))
+    unless_wide p (first_wide widths summary items) (done_ending (report_bytes p items summary))
 
 -- the ending for a plan, whose measures have the ends of the method
 pub record IsReported (p : PlanParts) (widths : Widths) (summary : Bool) (ending : Ending) : Type 0 where

@@ -2,14 +2,13 @@
 #![tactic(auto)]
 
 mod answer;
+mod comparing;
 mod lines;
 mod making;
 mod outcome;
 mod reading;
 mod solving;
 mod stop;
-#[cfg(test)]
-mod tests;
 mod top;
 
 pub use command_words::{Command, Name255, WordsEnd, read_words};

@@ -1,12 +1,11 @@
 ghost use Rattle.std.specs.Prelude.{◌≡◌, ◌++◌, IfOk};
 ghost use Rattle.std.specs.List.{flat_map};
-ghost use Rattle.hyper_model.specs.Measures.{IsInRange};
 ghost use Rattle.hypercube_cli.specs.Lines.{argument_field, arguments_of, number_field, number_of, place_of, refusal_line, wide_line};
 
 use crate::Refusal;
-use hyper_model::{Measure, Plan, scale};
+use hyper_model::{Measure, scale};
 use itoa::Buffer;
-use report_text::{push_ends, push_label};
+use report_text::push_ends;
 use std::alloc::{AllocError, Global};
 
 /// What is written where the words are no command.
@@ -25,22 +24,22 @@ pub(crate) fn refusal_text(alloc: Global, refusal: Refusal) -> Result<Vec<u8>, A
     Ok(text)
 }
 
-/// The line that tells of a measure whose ends lie too far apart. The plan is the one at this place.
+/// The line that tells of a measure, by the fields of its own line, whose ends lie too far apart in the plan at this
+/// place.
 pub(crate) fn wide_text(
     alloc: Global,
-    plan: &Plan,
+    label: &[u8],
     place: u32,
     measure: Measure,
     low: u64,
     high: u64,
 ) -> Result<Vec<u8>, AllocError>
-    requires { IsInRange plan.now measure }
-    ensures { IfOk result (λ text. text.items ≡ wide_line plan.now place measure low high) }
+    ensures { IfOk result (λ text. text.items ≡ wide_line label.now place measure low high) }
 {
     let mut text = Vec::from_slice(alloc, b"toowide")?;
     push_number(&mut text, u64::from(place))?;
     text.push(b',')?;
-    push_label(&mut text, plan, measure)?;
+    text.extend_from_slice(label)?;
     text.push(b',')?;
     push_ends(&mut text, low, high, scale(measure))?;
     text.push(b'\n')?;
@@ -52,6 +51,7 @@ fn place_of_refusal(refusal: Refusal) -> u32
 {
     match refusal {
         Refusal::Plan(place, _) => place,
+        Refusal::Study(_) => 0,
         Refusal::Make(_) => 0,
     }
 }
@@ -61,6 +61,7 @@ fn number_of_refusal(refusal: Refusal) -> u32
 {
     match refusal {
         Refusal::Plan(_, plan) => plan.number(),
+        Refusal::Study(study) => study.number(),
         Refusal::Make(make) => make.number(),
     }
 }
@@ -70,6 +71,7 @@ fn arguments_of_refusal(refusal: Refusal) -> [Option<u64>; 2]
 {
     match refusal {
         Refusal::Plan(_, plan) => plan.arguments(),
+        Refusal::Study(study) => study.arguments(),
         Refusal::Make(_) => [None, None],
     }
 }

@@ -2,14 +2,17 @@ ghost use Rattle.std.specs.Prelude.{◌≡◌};
 ghost use Rattle.hypercube_cli.specs.Outcomes.{status_of};
 
 use hyper_model::Measure;
+use plan_compare::StudyRefusal;
 use plan_maker::MakeRefusal;
 use plan_reader::PlanRefusal;
 
 /// What was refused, and why. It is never for want of memory.
 #[derive(Clone, Copy, Debug, PartialEq, Eq)]
 pub enum Refusal {
-    /// The plan at this place: 1 for the plan that is solved.
+    /// The plan at this place: 1 for the plan that is solved, and from 1 on those of a study.
     Plan(u32, PlanRefusal),
+    /// The study.
+    Study(StudyRefusal),
     /// The plan that was to be made.
     Make(MakeRefusal),
 }
@@ -26,7 +29,8 @@ pub enum Outcome {
     /// Of the plan at this place, this measure has a low and a high end, in units of its last printed digit, that lie
     /// further apart than was asked, and the line that says so was written.
     TooWide(u32, Measure, u64, u64),
-    /// There is no text of the name that the command asks for at this place, and nothing was written.
+    /// There is no text of the name that the command asks for at this place, 0 for a study and from 1 on for plans, and
+    /// nothing was written.
     Absent(u32),
     /// A text was not read, for a fault, and nothing was written.
     ReadFault,

@@ -8,7 +8,7 @@ use crate::lines::wide_text;
 use hyper_model::{Enclosures, Plan};
 use plan_solver::enclose_with;
 use rate_matrix::Gate;
-use report_text::{ReportEnd, Widths, report};
+use report_text::{ReportEnd, Widths, label, report};
 use std::alloc::{AllocError, Global};
 use std::thread::Threads;
 
@@ -39,7 +39,7 @@ pub(crate) fn solve_answer<R: Threads + Sync, G: Gate + Sync>(
         }),
         Err(ReportEnd::TooWide(measure, low, high)) => Ok(Answer {
             outcome: Outcome::TooWide(1, measure, low, high),
-            text: wide_text(alloc, plan, 1, measure, low, high)?,
+            text: wide_text(alloc, &label(alloc, plan, measure)?, 1, measure, low, high)?,
         }),
         Err(ReportEnd::NoMemory) => Err(AllocError),
     }

@@ -1,18 +1,19 @@
-ghost use Rattle.std.specs.Prelude.{◌≡◌, ◌≤◌, ℕ, None, Some, map, IfOk, IfSome};
+ghost use Rattle.std.specs.Prelude.{◌≡◌, ◌≢◌, ◌≤◌, ℕ, None, Some, map, IfOk, IfSome};
 ghost use Rattle.std.specs.Result.{IsErrOf};
 ghost use Rattle.std.specs.String.{string_bytes};
 ghost use Rattle.std.specs.Io.KnownBytes.{Keeps};
 ghost use Rattle.outer_world.specs.Faults.{Rose};
 ghost use Rattle.command_words.specs.Command.{command as command_of, WorkersInRange};
 ghost use Rattle.hypercube_cli.specs.Endings.{usage_ending};
-ghost use Rattle.hypercube_cli.specs.Runs.{Answers, AsksFor, Finishes, FinishesStopped, HasNoAnswer, IsProved, IsWritten, NeedsNoText, RunsCommand, WritesProved};
+ghost use Rattle.hypercube_cli.specs.Runs.{Answers, AsksFor, Finishes, FinishesStopped, IsProved, IsWritten, NeedsNoText, RunsCommand, WritesProved};
 ghost use Rattle.hypercube_cli.specs.Untouched.{IsUntouched};
 
 use crate::Outcome;
 use crate::answer::Answer;
+use crate::comparing::compare_answer;
 use crate::lines::{USAGE, refusal_text};
 use crate::making::make_answer;
-use crate::reading::plan_named;
+use crate::reading::{plan_named, plans_named, study_named};
 use crate::solving::solve_answer;
 use crate::stop::Stop;
 use command_words::{Command, WordsEnd, read_words};
@@ -42,9 +43,9 @@ pub fn hypercube<R: Threads + Sync, S: Shelf, K: Sink, G: Gate + Sync>(
     // The causes of each ending that no text can tell of.
     ensures no_command { command_of (map string_bytes words.now) ≡ None →
         Finishes usage_ending result (K.taken sink.old) (K.taken sink.new) }
-    ensures usage { result ≡ Outcome.Usage → HasNoAnswer (command_of (map string_bytes words.now)) }
+    ensures usage { result ≡ Outcome.Usage → command_of (map string_bytes words.now) ≡ None }
     ensures read_fault { result ≡ Outcome.ReadFault → Rose S.last_count (S.faults shelf.old) (S.faults shelf.new)
-        × AsksFor (command_of (map string_bytes words.now)) (S.last_fault shelf.new) }
+        × AsksFor (command_of (map string_bytes words.now)) (S.told shelf.old) (S.last_fault shelf.new) }
     ensures write_fault { result ≡ Outcome.WriteFault → Rose K.last_count (K.faults sink.old) (K.faults sink.new) }
 
     // What stands after each ending.
@@ -77,9 +78,9 @@ fn run<R: Threads + Sync, S: Shelf, K: Sink, G: Gate + Sync>(
         result (K.taken sink.old) (K.taken sink.new)) }
     ensures proved { IfSome (S.told shelf.old) (λ texts. result ≡ Outcome.Done →
         WritesProved (Some command.now) texts (K.taken sink.old) (K.taken sink.new)) }
-    ensures usage { result ≡ Outcome.Usage → HasNoAnswer (Some command.now) }
+    ensures used { result ≢ Outcome.Usage }
     ensures read_fault { result ≡ Outcome.ReadFault → Rose S.last_count (S.faults shelf.old) (S.faults shelf.new)
-        × AsksFor (Some command.now) (S.last_fault shelf.new) }
+        × AsksFor (Some command.now) (S.told shelf.old) (S.last_fault shelf.new) }
     ensures write_fault { result ≡ Outcome.WriteFault → Rose K.last_count (K.faults sink.old) (K.faults sink.new) }
     ensures untouched { NeedsNoText (Some command.now) →
         IsUntouched S.told S.left S.open_name S.faults S.last_fault shelf.old shelf.new }
@@ -108,9 +109,9 @@ fn answer<R: Threads + Sync, S: Shelf, G: Gate + Sync>(
     ensures proved { IfSome (S.told shelf.old) (λ texts. IfOk result (λ answer. answer.outcome ≡ Outcome.Done
         → IsProved command.now texts answer.text.items)) }
     ensures fault { IsErrOf result Stop.ReadFault → Rose S.last_count (S.faults shelf.old) (S.faults shelf.new)
-        × AsksFor (Some command.now) (S.last_fault shelf.new) }
+        × AsksFor (Some command.now) (S.told shelf.old) (S.last_fault shelf.new) }
     ensures written { IfOk result (λ answer. IsWritten answer.outcome) }
-    ensures usage { IfOk result (λ answer. answer.outcome ≡ Outcome.Usage → HasNoAnswer (Some command.now)) }
+    ensures used { IfOk result (λ answer. answer.outcome ≢ Outcome.Usage) }
     ensures untouched { NeedsNoText (Some command.now) →
         IsUntouched S.told S.left S.open_name S.faults S.last_fault shelf.old shelf.new }
     ensures told { S.told shelf.new ≡ S.told shelf.old }
@@ -126,10 +127,15 @@ fn answer<R: Threads + Sync, S: Shelf, G: Gate + Sync>(
             let plan = plan_named(alloc, shelf, 1, file.text())?;
             Ok(solve_answer(rt, alloc, &plan, *widths, *summary, *workers, gate)?)
         }
-        Command::Compare { .. } => Ok(Answer {
-            outcome: Outcome::Usage,
-            text: Vec::from_slice(alloc, USAGE.as_bytes())?,
-        }),
+        Command::Compare {
+            study,
+            widths,
+            workers,
+        } => {
+            let study = study_named(alloc, shelf, study.text())?;
+            let plans = plans_named(alloc, shelf, &study)?;
+            Ok(compare_answer(rt, alloc, &study, &plans, *widths, *workers, gate)?)
+        }
         Command::Make { units, number } => Ok(make_answer(alloc, *units, *number)?),
     }
 }

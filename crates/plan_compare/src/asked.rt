@@ -28,7 +28,7 @@ pub(crate) fn measure_named(word: &[u8]) -> Option<Measure>
 }
 
 /// The word of a measure of the whole region. Others have none.
-pub(crate) fn word(measure: Measure) -> &'static [u8]
+pub fn word(measure: Measure) -> &'static [u8]
     ensures { result.now ≡ spec.word_of measure }
 {
     match measure {

@@ -16,6 +16,7 @@ mod values;
 mod verdict_list;
 mod widths;
 
+pub use asked::word;
 pub use comparing::comparison;
 pub use ending::CompareEnd;
 pub use refusal::StudyRefusal;

@@ -22,22 +22,11 @@ fn ways_to_write_a_plan(rt: HostRuntime) -> Result<(), Fail> {
     for pieces in &cases {
         let text = text_of(rt.alloc(), pieces)?;
         let plan = read_plan(rt.alloc(), text.as_bytes())?;
-        assert!(rt;
-            plan.line() == Line::Zero && plan.rule() == Rule::Given,
-            "{text}"
-        );
-        assert!(rt; plan.units() == 1 && plan.atoms() == 1, "{text}");
-        assert!(rt;
-            plan.unit(0).name.text() == "A" && plan.unit(0).rate == 2,
-            "{text}"
-        );
-        assert!(rt;
-            plan.atom(0).name.text() == "P" && plan.atom(0).rate == 1,
-            "{text}"
-        );
-        assert_eq!(rt; plan.period(), 3600, "{text}");
-        assert_eq!(rt; plan.travel(0, 0), 300, "{text}");
-        assert_eq!(rt; plan.located(0, 0), 1000, "{text}");
+        assert!(rt; plan.units() == 1 && plan.atoms() == 1);
+        assert_eq!(rt; plan.unit(0).name.text(), "A");
+        assert_eq!(rt; plan.service(), 2);
+        assert_eq!(rt; plan.calls(), 1);
+        assert_eq!(rt; plan.travel(0, 0), 300);
     }
     Ok(())
 }
@@ -65,8 +54,8 @@ fn settings(rt: HostRuntime) -> Result<(), Fail> {
     for (front, back, line, rule, period) in cases {
         let text = text_of(rt.alloc(), &[front, UNITS, ATOMS, TRIPS, PLACES, back])?;
         let plan = read_plan(rt.alloc(), text.as_bytes())?;
-        assert!(rt; plan.line() == line && plan.rule() == rule, "{text}");
-        assert_eq!(rt; plan.period(), period, "{text}");
+        assert!(rt; plan.line() == line && plan.rule() == rule);
+        assert_eq!(rt; plan.period(), period);
     }
     Ok(())
 }
@@ -97,8 +86,8 @@ fn sums_of_rates(rt: HostRuntime) -> Result<(), Fail> {
     for (units, atoms, line, calls, service) in cases {
         let text = text_of(rt.alloc(), &[units, atoms, TRIPS, PLACES, LISTS, line])?;
         let plan = read_plan(rt.alloc(), text.as_bytes())?;
-        assert_eq!(rt; plan.calls(), calls, "{text}");
-        assert_eq!(rt; plan.service(), service, "{text}");
+        assert_eq!(rt; plan.calls(), calls);
+        assert_eq!(rt; plan.service(), service);
     }
     Ok(())
 }
@@ -136,11 +125,11 @@ fn given_lists(rt: HostRuntime) -> Result<(), Fail> {
         let text = text_of(rt.alloc(), &[front, UNITS, ATOMS, TRIPS, PLACES, records])?;
         let plan = read_plan(rt.alloc(), text.as_bytes())?;
         let lists = plan.lists();
-        assert!(rt; lists.atoms() == 2 && lists.units() == 2, "{text}");
-        assert_eq!(rt; lists.list(0), first.as_slice(), "{text}");
-        assert_eq!(rt; lists.list(1), second.as_slice(), "{text}");
-        assert_eq!(rt; lists.begins(0, 1), begins[0], "{text}");
-        assert_eq!(rt; lists.begins(1, 1), begins[1], "{text}");
+        assert!(rt; lists.atoms() == 2 && lists.units() == 2);
+        assert_eq!(rt; lists.list(0), first.as_slice());
+        assert_eq!(rt; lists.list(1), second.as_slice());
+        assert_eq!(rt; lists.begins(0, 1), begins[0]);
+        assert_eq!(rt; lists.begins(1, 1), begins[1]);
     }
     Ok(())
 }
@@ -156,10 +145,10 @@ fn lists_by_distance(rt: HostRuntime) -> Result<(), Fail> {
         let text = text_of(rt.alloc(), &[THREE, rule])?;
         let plan = read_plan(rt.alloc(), text.as_bytes())?;
         let lists = plan.lists();
-        assert!(rt; lists.atoms() == 3 && lists.units() == 2, "{text}");
-        assert_eq!(rt; lists.list(0), first.as_slice(), "{text}");
-        assert_eq!(rt; lists.list(1), second.as_slice(), "{text}");
-        assert_eq!(rt; lists.list(2), third.as_slice(), "{text}");
+        assert!(rt; lists.atoms() == 3 && lists.units() == 2);
+        assert_eq!(rt; lists.list(0), first.as_slice());
+        assert_eq!(rt; lists.list(1), second.as_slice());
+        assert_eq!(rt; lists.list(2), third.as_slice());
     }
     Ok(())
 }
@@ -237,14 +226,11 @@ fn plan_of_a_spreadsheet(rt: HostRuntime) -> Result<(), Fail> {
     assert_eq!(rt; plan.period(), 432_000);
     assert_eq!(rt; plan.calls(), 240);
     assert_eq!(rt; plan.service(), 480);
-    assert_eq!(rt; plan.atom(39).name.text(), "Z40");
-    assert!(rt; plan.atom(39).x == 7000 && plan.atom(39).y == 4000 && plan.atom(39).district == 7);
+    assert_eq!(rt; plan.atom(39).district, 7);
     assert_eq!(rt; plan.travel(0, 39), 780);
     assert!(rt; plan.located(7, 23) == 600 && plan.located(7, 15) == 200);
-    assert!(rt; plan.located(7, 31) == 200 && plan.located(7, 7) == 0);
     let lists = plan.lists();
     assert!(rt; lists.atoms() == 40 && lists.units() == 8);
-    assert_eq!(rt; lists.list(0), [0, 1, 2, 3, 4, 5, 6, 7].as_slice());
     assert_eq!(rt; lists.list(3), [3, 2, 4, 1, 5, 0, 6, 7].as_slice());
     assert_eq!(rt; lists.list(12), [4, 3, 5, 2, 6, 1, 7, 0].as_slice());
     assert_eq!(rt; lists.list(39), [7, 6, 5, 4, 3, 2, 1, 0].as_slice());

@@ -1,5 +1,5 @@
 use Rattle.std.proofs.Common.{subst, sym}
-use Rattle.std.specs.Prelude.{Some, Ok, IfOk, IfSome, ◌≡◌}
+use Rattle.std.specs.Prelude.{Some, Ok, IfSome, ◌≡◌}
 use Rattle.command_words.specs.declared.command.Command.{Command}
 use Rattle.hypercube_cli.specs.declared.outcome.Outcome.TheVariants as outcome
 use Rattle.hypercube_cli.specs.Runs.{Answers, IsProved, NeedsNoText}

@@ -1,12 +1,11 @@
-use crate::{Outcome, Refusal, hypercube, status};
-use hyper_model::{Measure, Name};
-use outer_world::{
-    Bytes, FileShelf, MemoryShelf, MemorySink, NamedText, StdoutSink, SureShelf, SureSink,
-};
+use crate::shelves::{texts_of, words_of};
+use hyper_model::Measure;
+use hypercube_cli::{Outcome, Refusal, hypercube, status};
+use outer_world::{FileShelf, MemoryShelf, MemorySink, StdoutSink, SureShelf, SureSink};
+use plan_compare::StudyRefusal;
 use plan_maker::MakeRefusal;
 use plan_reader::PlanRefusal;
 use rate_matrix::OpenGate;
-use std::alloc::{AllocError, Global};
 use std::fs;
 use std::test::Fail;
 
@@ -22,33 +21,22 @@ const THIRD_LOAD_REPORT: &str =
 const THIRD_LOAD_SUMMARY: &str =
     "report,1\nline,zero\nunits,1\natoms,1\ncalls,1\nservice,3\nloss,0.249999,0.250001\ninterdistrict,0.000000,0.000000\ntravel,300.000,300.000\nend\n";
 
-fn words_of(alloc: Global, line: &str) -> Result<Vec<String>, AllocError> {
-    let mut words = Vec::new(alloc);
-    for word in line.split(' ') {
-        words.push(String::from_str(alloc, word)?)?;
-    }
-    Ok(words)
-}
-
-/// The one text `a.csv`.
-fn shelf_of(alloc: Global, text: &[u8]) -> Result<Vec<NamedText>, AllocError> {
-    let Ok(name) = Name::of(alloc, b"a.csv") else {
-        return Err(AllocError)
-    };
-    let bytes = Bytes::of(alloc, text)?;
-    let mut texts = Vec::new(alloc);
-    texts
-        .push(NamedText { name, bytes })
-        .map_err(|_| AllocError)?;
-    Ok(texts)
-}
-
 #[test]
 fn answers_each_command(rt: HostRuntime) -> Result<(), Fail> {
-    let cases: [(&str, Outcome, &str, u8); 8] = [
+    let cases: [(&str, Outcome, &str, u8); 10] = [
         ("solve a.csv", Outcome::Done, THIRD_LOAD_REPORT, 0),
-        ("--summary solve a.csv --width=2", Outcome::Done, THIRD_LOAD_SUMMARY, 0),
-        ("solve a.csv --workers 3", Outcome::Done, THIRD_LOAD_REPORT, 0),
+        (
+            "--summary solve a.csv --width=2",
+            Outcome::Done,
+            THIRD_LOAD_SUMMARY,
+            0,
+        ),
+        (
+            "solve a.csv --workers 3",
+            Outcome::Done,
+            THIRD_LOAD_REPORT,
+            0,
+        ),
         ("solve x.csv", Outcome::Absent(1), "", 4),
         ("solve", Outcome::Usage, USAGE, 1),
         ("solve a.csv --width 1", Outcome::Usage, USAGE, 1),
@@ -59,6 +47,13 @@ fn answers_each_command(rt: HostRuntime) -> Result<(), Fail> {
             2,
         ),
         (
+            "compare a.csv",
+            Outcome::Refused(Refusal::Study(StudyRefusal::BadStudy)),
+            "refused,0,60\n",
+            2,
+        ),
+        ("compare s.toml", Outcome::Absent(0), "", 4),
+        (
             "make 2 4294967296",
             Outcome::Refused(Refusal::Make(MakeRefusal::MakeRange)),
             "refused,0,70\n",
@@ -67,7 +62,7 @@ fn answers_each_command(rt: HostRuntime) -> Result<(), Fail> {
     ];
     for (line, outcome, written, code) in &cases {
         let words = words_of(rt.alloc(), line)?;
-        let texts = shelf_of(rt.alloc(), THIRD_LOAD.as_bytes())?;
+        let texts = texts_of(rt.alloc(), &[("a.csv", THIRD_LOAD.as_bytes())])?;
         let mut shelf = SureShelf::of(&texts, 7);
         let mut sink = SureSink::of(11);
         let got = hypercube(&rt, rt.alloc(), &words, &mut shelf, &mut sink, &OpenGate);
@@ -82,7 +77,11 @@ fn answers_each_command(rt: HostRuntime) -> Result<(), Fail> {
 fn refuses_texts(rt: HostRuntime) -> Result<(), Fail> {
     let cases: [(&str, PlanRefusal, &str); 3] = [
         ("", PlanRefusal::NoUnits, "refused,1,15\n"),
-        ("unit,A,0\n", PlanRefusal::BadNumber(1, 3), "refused,1,5,1,3\n"),
+        (
+            "unit,A,0\n",
+            PlanRefusal::BadNumber(1, 3),
+            "refused,1,5,1,3\n",
+        ),
         (
             "line,infinite\nunit,A,1\natom,P,1,0,0,A\ntravel,P,P,300\nat,A,P,1000\nprefer,P,A\n",
             PlanRefusal::NotStable(1, 1),
@@ -91,7 +90,7 @@ fn refuses_texts(rt: HostRuntime) -> Result<(), Fail> {
     ];
     for (text, refusal, written) in &cases {
         let words = words_of(rt.alloc(), "solve a.csv")?;
-        let texts = shelf_of(rt.alloc(), text.as_bytes())?;
+        let texts = texts_of(rt.alloc(), &[("a.csv", text.as_bytes())])?;
         let mut shelf = SureShelf::of(&texts, 7);
         let mut sink = SureSink::of(11);
         let got = hypercube(&rt, rt.alloc(), &words, &mut shelf, &mut sink, &OpenGate);
@@ -103,14 +102,21 @@ fn refuses_texts(rt: HostRuntime) -> Result<(), Fail> {
 
 #[test]
 fn tells_what_is_too_wide(rt: HostRuntime) -> Result<(), Fail> {
-    let text = "unit,A,300000\nunit,B,300000\nunit,C,300000\natom,P,1,0,0,A\ntravel,P,P,300\nat,A,P,1000\nat,B,P,1000\nat,C,P,1000\nprefer,P,A,B,C\n";
+    let text =
+        "unit,A,300000\nunit,B,300000\nunit,C,300000\natom,P,1,0,0,A\ntravel,P,P,300\nat,A,P,1000\nat,B,P,1000\nat,C,P,1000\nprefer,P,A,B,C\n";
     let words = words_of(rt.alloc(), "solve a.csv --time-width 12")?;
-    let texts = shelf_of(rt.alloc(), text.as_bytes())?;
+    let texts = texts_of(rt.alloc(), &[("a.csv", text.as_bytes())])?;
     let mut shelf = SureShelf::of(&texts, 1000);
     let mut sink = SureSink::of(1000);
     let got = hypercube(&rt, rt.alloc(), &words, &mut shelf, &mut sink, &OpenGate);
-    assert_eq!(rt; got, Outcome::TooWide(1, Measure::TravelUnit(2), 299_987, 300_000));
-    assert_eq!(rt; sink.bytes(), b"toowide,1,travel-unit,C,299.987,300.000\n".as_slice());
+    assert_eq!(rt;
+        got,
+        Outcome::TooWide(1, Measure::TravelUnit(2), 299_987, 300_000)
+    );
+    assert_eq!(rt;
+        sink.bytes(),
+        b"toowide,1,travel-unit,C,299.987,300.000\n".as_slice()
+    );
     assert_eq!(rt; status(&got), 3);
     Ok(())
 }
@@ -119,11 +125,14 @@ fn tells_what_is_too_wide(rt: HostRuntime) -> Result<(), Fail> {
 fn refuses_a_text_of_one_byte_too_many(rt: HostRuntime) -> Result<(), Fail> {
     let words = words_of(rt.alloc(), "solve a.csv")?;
     let text = vec![in rt.alloc(); b'#'; 4_194_305]?;
-    let texts = shelf_of(rt.alloc(), &text)?;
+    let texts = texts_of(rt.alloc(), &[("a.csv", &text)])?;
     let mut shelf = SureShelf::of(&texts, 1 << 20);
     let mut sink = SureSink::of(100);
     let got = hypercube(&rt, rt.alloc(), &words, &mut shelf, &mut sink, &OpenGate);
-    assert_eq!(rt; got, Outcome::Refused(Refusal::Plan(1, PlanRefusal::TooLong(4_194_305))));
+    assert_eq!(rt;
+        got,
+        Outcome::Refused(Refusal::Plan(1, PlanRefusal::TooLong(4_194_305)))
+    );
     assert_eq!(rt; sink.bytes(), b"refused,1,2,4194305\n".as_slice());
     Ok(())
 }
@@ -132,7 +141,7 @@ fn refuses_a_text_of_one_byte_too_many(rt: HostRuntime) -> Result<(), Fail> {
 fn tells_a_fault_of_each_reading(rt: HostRuntime) -> Result<(), Fail> {
     for call in 1..11 {
         let words = words_of(rt.alloc(), "solve a.csv")?;
-        let texts = shelf_of(rt.alloc(), THIRD_LOAD.as_bytes())?;
+        let texts = texts_of(rt.alloc(), &[("a.csv", THIRD_LOAD.as_bytes())])?;
         let fails = [call];
         let mut shelf = MemoryShelf::of(&texts, 10, &fails);
         let mut sink = SureSink::of(1000);
@@ -152,12 +161,16 @@ fn tells_a_fault_of_each_reading(rt: HostRuntime) -> Result<(), Fail> {
 fn tells_a_fault_of_each_writing(rt: HostRuntime) -> Result<(), Fail> {
     for call in 1..6 {
         let words = words_of(rt.alloc(), "solve a.csv")?;
-        let texts = shelf_of(rt.alloc(), THIRD_LOAD.as_bytes())?;
+        let texts = texts_of(rt.alloc(), &[("a.csv", THIRD_LOAD.as_bytes())])?;
         let mut shelf = SureShelf::of(&texts, 1000);
         let fails = [call];
         let mut sink = MemorySink::of(100, &fails);
         let got = hypercube(&rt, rt.alloc(), &words, &mut shelf, &mut sink, &OpenGate);
-        let outcome = if call < 5 { Outcome::WriteFault } else { Outcome::Done };
+        let outcome = if call < 5 {
+            Outcome::WriteFault
+        } else {
+            Outcome::Done
+        };
         assert_eq!(rt; got, outcome);
         let taken = THIRD_LOAD_REPORT.len().min(100 * (call as usize - 1));
         assert_eq!(rt; sink.bytes().len(), taken);
@@ -170,7 +183,10 @@ fn tells_a_fault_of_each_writing(rt: HostRuntime) -> Result<(), Fail> {
 fn solves_a_real_file(rt: HostRuntime) -> Result<(), Fail> {
     let file = "/tmp/hypercube-third-load-plan.csv";
     fs::write(&rt, file, THIRD_LOAD)?;
-    let words = words_of(rt.alloc(), "solve /tmp/hypercube-third-load-plan.csv --summary")?;
+    let words = words_of(
+        rt.alloc(),
+        "solve /tmp/hypercube-third-load-plan.csv --summary",
+    )?;
     let mut shelf = FileShelf::of(&rt);
     let mut sink = StdoutSink::of(&rt);
     let got = hypercube(&rt, rt.alloc(), &words, &mut shelf, &mut sink, &OpenGate);

@@ -1,0 +1,105 @@
+use crate::shelves::{texts_of, words_of};
+use fixed_interval::Iv;
+use hypercube_cli::{Outcome, hypercube};
+use outer_world::{SureShelf, SureSink};
+use rate_matrix::{Gate, OpenGate};
+use std::sync::atomic::{AtomicBool, AtomicU64, Ordering};
+use std::test::Fail;
+
+const TWO_UNITS: &str =
+    "unit,A,3\nunit,B,3\natom,P,1,0,0,A\natom,Q,1,9,0,B\ntravel,P,P,60\ntravel,P,Q,300\ntravel,Q,P,300\ntravel,Q,Q,60\nat,A,P,1000\nat,B,Q,1000\nprefer,P,A,B\nprefer,Q,B,A\n";
+
+const STUDY: &str = "plans = [\"two.csv\", \"two.csv\"]\nmeasures = [\"loss\"]\n";
+
+/// A gate at which each cell of one plan waits for the like-numbered cell of the other, until a wait has failed.
+struct InStep {
+    looks: u32,
+    first: AtomicU64,
+    second: AtomicU64,
+    failed: AtomicBool,
+}
+
+impl InStep {
+    fn of(looks: u32) -> InStep {
+        InStep {
+            looks,
+            first: AtomicU64::new(0),
+            second: AtomicU64::new(0),
+            failed: AtomicBool::new(false),
+        }
+    }
+
+    fn step(&self, mine: &AtomicU64, other: &AtomicU64) {
+        let count = mine.load(Ordering::SeqCst).wrapping_add(1);
+        mine.store(count, Ordering::SeqCst);
+        if !self.failed.load(Ordering::SeqCst) && !self.reaches(other, count) {
+            self.failed.store(true, Ordering::SeqCst);
+        }
+    }
+
+    fn reaches(&self, other: &AtomicU64, count: u64) -> bool {
+        for _ in 0..self.looks {
+            if other.load(Ordering::SeqCst) >= count {
+                return true;
+            }
+        }
+        false
+    }
+
+    fn had_both(&self) -> bool {
+        self.first.load(Ordering::SeqCst) > 0 && self.second.load(Ordering::SeqCst) > 0
+    }
+
+    fn has_failed(&self) -> bool {
+        self.failed.load(Ordering::SeqCst)
+    }
+}
+
+impl Gate for InStep {
+    fn cell(&self, place: usize, row: usize, old: Iv, into: Iv, part: Iv, cap: u64) -> Iv {
+        match place {
+            0 => self.step(&self.first, &self.second),
+            _ => self.step(&self.second, &self.first),
+        }
+        OpenGate.cell(place, row, old, into, part, cap)
+    }
+}
+
+#[test]
+fn two_plans_of_a_study_go_in_step(rt: HostRuntime) -> Result<(), Fail> {
+    let words = words_of(rt.alloc(), "compare s.toml --workers 2")?;
+    let texts = texts_of(
+        rt.alloc(),
+        &[
+            ("s.toml", STUDY.as_bytes()),
+            ("two.csv", TWO_UNITS.as_bytes()),
+        ],
+    )?;
+    let mut shelf = SureShelf::of(&texts, 1000);
+    let mut sink = SureSink::of(10000);
+    let gate = InStep::of(100_000_000);
+    let got = hypercube(&rt, rt.alloc(), &words, &mut shelf, &mut sink, &gate);
+    assert_eq!(rt; got, Outcome::Done);
+    assert!(rt; gate.had_both());
+    assert!(rt; !gate.has_failed());
+    Ok(())
+}
+
+#[test]
+fn one_worker_solves_one_plan_after_the_other(rt: HostRuntime) -> Result<(), Fail> {
+    let words = words_of(rt.alloc(), "compare s.toml --workers 1")?;
+    let texts = texts_of(
+        rt.alloc(),
+        &[
+            ("s.toml", STUDY.as_bytes()),
+            ("two.csv", TWO_UNITS.as_bytes()),
+        ],
+    )?;
+    let mut shelf = SureShelf::of(&texts, 1000);
+    let mut sink = SureSink::of(10000);
+    let gate = InStep::of(1000);
+    let got = hypercube(&rt, rt.alloc(), &words, &mut shelf, &mut sink, &gate);
+    assert_eq!(rt; got, Outcome::Done);
+    assert!(rt; gate.has_failed());
+    Ok(())
+}
