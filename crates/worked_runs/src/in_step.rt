@@ -12,6 +12,7 @@ const TWO_UNITS: &str =
 const STUDY: &str = "plans = [\"two.csv\", \"two.csv\"]\nmeasures = [\"loss\"]\n";
 
 /// A gate at which each cell of one plan waits for the like-numbered cell of the other, until a wait has failed.
+#[derive(Drop)]
 struct InStep {
     looks: u32,
     first: AtomicU64,

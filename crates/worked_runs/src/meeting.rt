@@ -11,6 +11,7 @@ const THREE_UNITS: &str =
     "unit,A,300000\nunit,B,300000\nunit,C,300000\natom,P,1,0,0,A\ntravel,P,P,300\nat,A,P,1000\nat,B,P,1000\nat,C,P,1000\nprefer,P,A,B,C\n";
 
 /// A gate at which the first cell of row 4 and that of row 6 look for each other.
+#[derive(Drop)]
 struct Meeting {
     looks: u32,
     fourth_there: AtomicBool,
