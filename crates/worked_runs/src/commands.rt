@@ -1,3 +1,5 @@
+use crate::plans::{THIRD_LOAD, THREE_UNITS};
+use crate::reports::{THIRD_LOAD_REPORT, THIRD_LOAD_SUMMARY, USAGE};
 use crate::shelves::{texts_of, words_of};
 use hyper_model::Measure;
 use hypercube_cli::{Outcome, Refusal, hypercube, status};
@@ -9,21 +11,9 @@ use rate_matrix::OpenGate;
 use std::fs;
 use std::test::Fail;
 
-const USAGE: &str =
-    "usage: hypercube solve FILE | compare STUDY | make UNITS NUMBER [--width W] [--time-width W] [--workers N] [--summary]\n";
-
-/// A unit that serves three calls for each that comes. 2^52 is not divisible by 3, so the weights are rounded.
-const THIRD_LOAD: &str = "unit,A,3\natom,P,1,0,0,A\ntravel,P,P,300\nat,A,P,1000\nprefer,P,A\n";
-
-const THIRD_LOAD_REPORT: &str =
-    "report,1\nline,zero\nunits,1\natoms,1\ncalls,1\nservice,3\nprefer,P,A\nloss,0.249999,0.250001\nworkload,A,0.249999,0.250001\ndispatch,A,P,1.000000,1.000000\ninterdistrict,0.000000,0.000000\ninterdistrict-unit,A,0.000000,0.000000\ninterdistrict-district,A,0.000000,0.000000\ntravel,300.000,300.000\ntravel-atom,P,300.000,300.000\ntravel-unit,A,300.000,300.000\ntravel-district,A,300.000,300.000\nend\n";
-
-const THIRD_LOAD_SUMMARY: &str =
-    "report,1\nline,zero\nunits,1\natoms,1\ncalls,1\nservice,3\nloss,0.249999,0.250001\ninterdistrict,0.000000,0.000000\ntravel,300.000,300.000\nend\n";
-
 #[test]
 fn answers_each_command(rt: HostRuntime) -> Result<(), Fail> {
-    let cases: [(&str, Outcome, &str, u8); 10] = [
+    let cases: [(&str, Outcome, &str, u8); 16] = [
         ("solve a.csv", Outcome::Done, THIRD_LOAD_REPORT, 0),
         (
             "--summary solve a.csv --width=2",
@@ -38,10 +28,21 @@ fn answers_each_command(rt: HostRuntime) -> Result<(), Fail> {
             0,
         ),
         ("solve x.csv", Outcome::Absent(1), "", 4),
+        ("solve -- -x.csv", Outcome::Absent(1), "", 4),
         ("solve", Outcome::Usage, USAGE, 1),
         ("solve a.csv --width 1", Outcome::Usage, USAGE, 1),
+        ("solve a.csv --width=5 --width 6", Outcome::Usage, USAGE, 1),
+        ("solve a.csv --workers 17", Outcome::Usage, USAGE, 1),
+        ("solve a.csv -x", Outcome::Usage, USAGE, 1),
+        ("make 2 0 --workers 1", Outcome::Usage, USAGE, 1),
         (
             "make 1 0",
+            Outcome::Refused(Refusal::Make(MakeRefusal::MakeRange)),
+            "refused,0,70\n",
+            2,
+        ),
+        (
+            "make 11 0",
             Outcome::Refused(Refusal::Make(MakeRefusal::MakeRange)),
             "refused,0,70\n",
             2,
@@ -100,24 +101,25 @@ fn refuses_texts(rt: HostRuntime) -> Result<(), Fail> {
     Ok(())
 }
 
+/// The times in front of the one that is told are narrow, so that the least width tells the same.
 #[test]
 fn tells_what_is_too_wide(rt: HostRuntime) -> Result<(), Fail> {
-    let text =
-        "unit,A,300000\nunit,B,300000\nunit,C,300000\natom,P,1,0,0,A\ntravel,P,P,300\nat,A,P,1000\nat,B,P,1000\nat,C,P,1000\nprefer,P,A,B,C\n";
-    let words = words_of(rt.alloc(), "solve a.csv --time-width 12")?;
-    let texts = texts_of(rt.alloc(), &[("a.csv", text.as_bytes())])?;
-    let mut shelf = SureShelf::of(&texts, 1000);
-    let mut sink = SureSink::of(1000);
-    let got = hypercube(&rt, rt.alloc(), &words, &mut shelf, &mut sink, &OpenGate);
-    assert_eq!(rt;
-        got,
-        Outcome::TooWide(1, Measure::TravelUnit(2), 299_987, 300_000)
-    );
-    assert_eq!(rt;
-        sink.bytes(),
-        b"toowide,1,travel-unit,C,299.987,300.000\n".as_slice()
-    );
-    assert_eq!(rt; status(&got), 3);
+    for line in ["solve a.csv --time-width 12", "solve a.csv --time-width 2"] {
+        let words = words_of(rt.alloc(), line)?;
+        let texts = texts_of(rt.alloc(), &[("a.csv", THREE_UNITS.as_bytes())])?;
+        let mut shelf = SureShelf::of(&texts, 1000);
+        let mut sink = SureSink::of(1000);
+        let got = hypercube(&rt, rt.alloc(), &words, &mut shelf, &mut sink, &OpenGate);
+        assert_eq!(rt;
+            got,
+            Outcome::TooWide(1, Measure::TravelUnit(2), 299_987, 300_000)
+        );
+        assert_eq!(rt;
+            sink.bytes(),
+            b"toowide,1,travel-unit,C,299.987,300.000\n".as_slice()
+        );
+        assert_eq!(rt; status(&got), 3);
+    }
     Ok(())
 }
 

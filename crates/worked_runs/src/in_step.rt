@@ -1,3 +1,4 @@
+use crate::plans::TWO_UNITS;
 use crate::shelves::{texts_of, words_of};
 use fixed_interval::Iv;
 use hypercube_cli::{Outcome, hypercube};
@@ -5,9 +6,6 @@ use outer_world::{SureShelf, SureSink};
 use rate_matrix::{Gate, OpenGate};
 use std::sync::atomic::{AtomicBool, AtomicU64, Ordering};
 use std::test::Fail;
-
-const TWO_UNITS: &str =
-    "unit,A,3\nunit,B,3\natom,P,1,0,0,A\natom,Q,1,9,0,B\ntravel,P,P,60\ntravel,P,Q,300\ntravel,Q,P,300\ntravel,Q,Q,60\nat,A,P,1000\nat,B,Q,1000\nprefer,P,A,B\nprefer,Q,B,A\n";
 
 const STUDY: &str = "plans = [\"two.csv\", \"two.csv\"]\nmeasures = [\"loss\"]\n";
 

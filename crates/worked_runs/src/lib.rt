@@ -2,12 +2,24 @@
 #![tactic(auto)]
 
 #[cfg(test)]
+mod cases;
+#[cfg(test)]
 mod commands;
 #[cfg(test)]
 mod in_step;
 #[cfg(test)]
 mod meeting;
 #[cfg(test)]
+mod plans;
+#[cfg(test)]
+mod refused;
+#[cfg(test)]
+mod reports;
+#[cfg(test)]
+mod same_bytes;
+#[cfg(test)]
 mod shelves;
+#[cfg(test)]
+mod solved;
 #[cfg(test)]
 mod studies;

@@ -1,3 +1,4 @@
+use crate::plans::THREE_UNITS;
 use crate::shelves::{texts_of, words_of};
 use fixed_interval::Iv;
 use hypercube_cli::{Outcome, hypercube};
@@ -6,11 +7,8 @@ use rate_matrix::{Gate, OpenGate};
 use std::sync::atomic::{AtomicBool, Ordering};
 use std::test::Fail;
 
-/// Three units, so that eight words: when the full one goes, the rows 4, 5 and 6 change, in two chunks for two workers.
-const THREE_UNITS: &str =
-    "unit,A,300000\nunit,B,300000\nunit,C,300000\natom,P,1,0,0,A\ntravel,P,P,300\nat,A,P,1000\nat,B,P,1000\nat,C,P,1000\nprefer,P,A,B,C\n";
-
-/// A gate at which the first cell of row 4 and that of row 6 look for each other.
+/// A gate at which the first cell of row 4 and that of row 6 look for each other. Where the full one of eight words
+/// goes, the rows 4, 5 and 6 change, in two chunks for two workers.
 #[derive(Drop)]
 struct Meeting {
     looks: u32,

@@ -25,7 +25,7 @@ pub(crate) fn texts_of(
     Ok(named)
 }
 
-fn text_of(alloc: Global, name: &str, bytes: &[u8]) -> Result<NamedText, AllocError> {
+pub(crate) fn text_of(alloc: Global, name: &str, bytes: &[u8]) -> Result<NamedText, AllocError> {
     let Ok(name) = Name::of(alloc, name.as_bytes()) else {
         return Err(AllocError)
     };

@@ -1,3 +1,4 @@
+use crate::plans::{HALF_LOAD, LITTLE_MORE, TWO_UNITS};
 use crate::shelves::{texts_of, words_of};
 use hypercube_cli::{Outcome, Refusal, hypercube};
 use outer_world::{MemoryShelf, SureShelf, SureSink};
@@ -5,17 +6,6 @@ use plan_compare::StudyRefusal;
 use plan_reader::PlanRefusal;
 use rate_matrix::OpenGate;
 use std::test::Fail;
-
-/// One unit, with as many calls as half of its service: a third of them is lost.
-const HALF_LOAD: &str = "unit,A,2\natom,P,1,0,0,A\ntravel,P,P,300\nat,A,P,1000\nprefer,P,A\n";
-
-/// Of 100,000 calls for each 199,999 services, 100,000 of 299,999 are lost.
-const LITTLE_MORE: &str =
-    "unit,A,199999\natom,P,100000,0,0,A\ntravel,P,P,300\nat,A,P,1000\nprefer,P,A\n";
-
-/// Two units with opposite lists: 2 calls of 17 are lost.
-const TWO_UNITS: &str =
-    "unit,A,3\nunit,B,3\natom,P,1,0,0,A\natom,Q,1,9,0,B\ntravel,P,P,60\ntravel,P,Q,300\ntravel,Q,P,300\ntravel,Q,Q,60\nat,A,P,1000\nat,B,Q,1000\nprefer,P,A,B\nprefer,Q,B,A\n";
 
 const TWO_AND_HALF: &str = "plans = [\"two.csv\", \"half.csv\"]\nmeasures = [\"loss\"]\n";
 
