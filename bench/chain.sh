@@ -4,27 +4,11 @@
 #
 # The first table has the nanoseconds of the rows' change per changed entry, and those of the same loop in C. The second
 # has the seconds of a whole elimination and back substitution, and those of a plain dense one in double precision.
-set -eu
-bench=$(CDPATH='' cd -- "$(dirname -- "$0")" && pwd)
-runs=${1:-3}
-work=$(mktemp -d)
-trap 'rm -rf "$work"' EXIT
+. "$(dirname -- "$0")/common.sh"
 for name in rows dense; do
     "${CC:-gcc}" -O2 -o "$work/$name" "$bench/$name.c"
 done
-times=$bench/../crates/chain_times/out/chain_times
-if [ ! -x "$times" ]; then
-    (cd "$bench/../crates/chain_times" && rt run) >"$work/build" 2>&1 || { cat "$work/build" >&2; exit 1; }
-fi
-
-# The line with the least second number of a command's lines, over so many runs.
-least() {
-    count=$1
-    shift
-    for _ in $(seq "$count"); do
-        "$@" 2>&1
-    done | sort -n -k 2,2 | head -n 1
-}
+times=$(built chain_times)
 
 prepare() {
     python3 "$bench/made_plan.py" "$1" 1 >"$work/$1.csv"
@@ -37,10 +21,10 @@ in_c() { "$work/$1" <"$work/$2.rates"; }
 solve() { "$times" solve "$work/$1.csv" "$2" 2>&1 | awk '{ print $3 "-" $4, $1 + $2 }'; }
 
 rows_table() {
-    c=$(least "$runs" in_c rows "$1")
+    c=$(least 2 "$runs" in_c rows "$1")
     echo "units workers   entries     ns    C ns  ratio"
     for workers in 1 2 4; do
-        ours=$(least "$runs" "$times" rows "$work/$1.csv" "$workers")
+        ours=$(least 2 "$runs" "$times" rows "$work/$1.csv" "$workers")
         echo "$1 $workers $ours $c" | awk '
             $3 != $7 || $5 != $9 || $6 != $10 { print "the two leave other entries"; exit 1 }
             { printf "%5d %7d %9d %6.2f  %6.2f %6.2f\n", $1, $2, $3, $4 / $3, $8 / $7, $4 / $8 }'
@@ -48,9 +32,9 @@ rows_table() {
 }
 
 solve_rows() {
-    c=$(least "$2" in_c dense "$1")
+    c=$(least 2 "$2" in_c dense "$1")
     for workers in 1 2 4; do
-        ours=$(least "$2" solve "$1" "$workers")
+        ours=$(least 2 "$2" solve "$1" "$workers")
         echo "$1 $workers $ours $c" |
             awk '{ printf "%5d %7d %10.4f  %10.4f %6.2f\n", $1, $2, $4 / 1e9, $6 / 1e9, $4 / $6 }'
     done
