@@ -6,6 +6,8 @@ mod cases;
 #[cfg(test)]
 mod commands;
 #[cfg(test)]
+mod grid;
+#[cfg(test)]
 mod in_step;
 #[cfg(test)]
 mod meeting;

@@ -485,6 +485,36 @@ prefer,Z8,M2,M6,M5,M7,M4,M1,M3
 prefer,Z9,M4,M6,M7,M1,M2,M3,M5
 ";
 
+/// Eleven units at one atom, which are sent in one order: the loss is Erlang's for eleven servers and six calls for
+/// each service.
+pub(crate) const ELEVEN_UNITS: &str = "\
+unit,U1,1
+unit,U2,1
+unit,U3,1
+unit,U4,1
+unit,U5,1
+unit,U6,1
+unit,U7,1
+unit,U8,1
+unit,U9,1
+unit,U10,1
+unit,U11,1
+atom,P,6,0,0,U1
+travel,P,P,300
+at,U1,P,1000
+at,U2,P,1000
+at,U3,P,1000
+at,U4,P,1000
+at,U5,P,1000
+at,U6,P,1000
+at,U7,P,1000
+at,U8,P,1000
+at,U9,P,1000
+at,U10,P,1000
+at,U11,P,1000
+prefer,P,U1,U2,U3,U4,U5,U6,U7,U8,U9,U10,U11
+";
+
 /// How a made plan of two units begins.
 pub(crate) const MADE_HEAD: &str = "\
 version,1

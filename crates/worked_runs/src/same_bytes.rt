@@ -8,17 +8,47 @@ use std::process::Abort;
 use std::test::Fail;
 use std::thread::Threads;
 
-const MADE: [(&str, &str); 6] = [
+const MADE: [(&str, &str); 17] = [
     ("1.csv", "make 4 1"),
     ("2.csv", "make 4 2"),
     ("3.csv", "make 4 3"),
     ("4.csv", "make 4 4"),
     ("5.csv", "make 4 5"),
     ("6.csv", "make 4 6"),
+    ("7.csv", "make 4 7"),
+    ("8.csv", "make 4 8"),
+    ("9.csv", "make 4 9"),
+    ("10.csv", "make 4 10"),
+    ("11.csv", "make 4 11"),
+    ("12.csv", "make 4 12"),
+    ("13.csv", "make 4 13"),
+    ("14.csv", "make 4 14"),
+    ("15.csv", "make 4 15"),
+    ("16.csv", "make 4 16"),
+    ("ten.csv", "make 10 7"),
 ];
 
-const STUDY: &str =
-    "plans = [\"1.csv\", \"2.csv\", \"3.csv\", \"4.csv\", \"5.csv\", \"6.csv\"]\nmeasures = [\"loss\", \"interdistrict\", \"travel\"]\n";
+const STUDY: &str = "\
+plans = [
+    \"1.csv\",
+    \"2.csv\",
+    \"3.csv\",
+    \"4.csv\",
+    \"5.csv\",
+    \"6.csv\",
+    \"7.csv\",
+    \"8.csv\",
+    \"9.csv\",
+    \"10.csv\",
+    \"11.csv\",
+    \"12.csv\",
+    \"13.csv\",
+    \"14.csv\",
+    \"15.csv\",
+    \"16.csv\",
+]
+measures = [\"loss\", \"interdistrict\", \"travel\"]
+";
 
 /// In each, lines that write the same bytes.
 const ALIKE: [[&str; 3]; 4] = [
@@ -28,9 +58,9 @@ const ALIKE: [[&str; 3]; 4] = [
         "solve two.csv --workers 16",
     ],
     [
-        "solve 1.csv --summary --workers 1",
-        "solve 1.csv --summary --workers 3",
-        "solve 1.csv --summary --workers 16",
+        "solve ten.csv --summary --workers 1",
+        "solve ten.csv --summary --workers 3",
+        "solve ten.csv --summary --workers 16",
     ],
     [
         "compare s.toml --workers 1",
@@ -51,7 +81,7 @@ fn lines_alike_write_the_same_bytes(rt: HostRuntime) -> Result<(), Fail> {
     Ok(())
 }
 
-/// Two units with opposite lists, six made plans and their study.
+/// Two units with opposite lists, made plans, and a study of sixteen of them.
 fn shelf<R: Abort + Threads + Sync>(rt: &R, alloc: Global) -> Result<Vec<NamedText>, Fail> {
     let mut texts = texts_of(
         alloc,

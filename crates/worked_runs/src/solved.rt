@@ -23,7 +23,7 @@ fn plans_have_these_reports(rt: HostRuntime) -> Result<(), Fail> {
 /// What a run is about, its command line, the text of `a.csv`, and what is written.
 type Solved = (&'static str, &'static str, Text, Written);
 
-const SOLVED: [Solved; 29] = [
+const SOLVED: [Solved; 30] = [
     (
         "one unit, half as many calls as services",
         "solve a.csv",
@@ -171,6 +171,12 @@ const SOLVED: [Solved; 29] = [
         "solve a.csv",
         Plain(SEVEN_OVERLOADED),
         Whole(SEVEN_OVERLOADED_REPORT),
+    ),
+    (
+        "eleven units sent in one order",
+        "solve a.csv",
+        Plain(ELEVEN_UNITS),
+        Lines(&["loss,0.022990,0.022991"]),
     ),
     (
         "the least width, which each interval has",
