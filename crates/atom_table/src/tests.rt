@@ -50,7 +50,7 @@ fn refusals_name_their_record(rt: HostRuntime) -> Result<(), Fail> {
         let records = records(rt.alloc(), text)?;
         match AtomTable::of(rt.alloc(), &records) {
             Ok(_) => assert!(rt; false),
-            Err(refusal) => assert!(rt; refusal == wanted || refusal == AtomRefusal::NoMemory),
+            Err(refusal) => assert!(rt; refusal == wanted),
         }
     }
     Ok(())

@@ -53,7 +53,7 @@ fn refusals_name_their_record(rt: HostRuntime) -> Result<(), Fail> {
     for (text, wanted) in cases {
         match records(rt.alloc(), text) {
             Ok(_) => assert!(rt; false),
-            Err(refusal) => assert!(rt; refusal == wanted || refusal == TextRefusal::NoMemory),
+            Err(refusal) => assert!(rt; refusal == wanted),
         }
     }
     Ok(())

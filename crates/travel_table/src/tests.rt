@@ -38,7 +38,7 @@ fn refusals_name_their_record(rt: HostRuntime) -> Result<(), Fail> {
         let names = AtomTable::of(rt.alloc(), &records)?;
         match TravelTable::of(rt.alloc(), &names, &records) {
             Ok(_) => assert!(rt; false),
-            Err(refusal) => assert!(rt; refusal == wanted || refusal == TravelRefusal::NoMemory),
+            Err(refusal) => assert!(rt; refusal == wanted),
         }
     }
     Ok(())
