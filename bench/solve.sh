@@ -24,9 +24,9 @@ whole() { python3 "$bench/whole.py" "$program" solve "$work/$1.csv" --workers "$
 
 parts_rows() {
     for workers in 1 2 4; do
-        ours=$(least 3 "$(runs_of "$1")" "$times" "$work/$1.csv" "$workers")
+        ours=$(least 2 "$(runs_of "$1")" "$times" "$work/$1.csv" "$workers")
         echo "$1 $workers $ours" | awk '
-            { printf "%5d %7d %8.3f %8.3f %8.3f %8.3f\n", $1, $2, $3 / 1e6, $4 / 1e6, ($5 - $4) / 1e6, $6 / 1e6 }'
+            { printf "%5d %7d %8.3f %8.3f %8.3f %8.3f\n", $1, $2, $3 / 1e6, $4 / 1e6, $5 / 1e6, $6 / 1e6 }'
     done
 }
 

@@ -14,6 +14,7 @@ use std::thread::Threads;
 use std::time::Clock;
 use std::{env, fs};
 
+mod measuring;
 mod parts;
 mod refusal;
 
@@ -69,9 +70,9 @@ fn measure<R: Eprint + Clock + Threads + Sync + AllocGlobal>(
 {
     let (report, parts) = solve(rt, rt.alloc(), text, workers)?;
     let (reading, weighing) = (parts.reading, parts.weighing);
-    let (enclosing, writing) = (parts.enclosing, parts.writing);
+    let (measuring, writing) = (parts.measuring, parts.writing);
     eprintln!(rt;
-        "{reading} {weighing} {enclosing} {writing} {}",
+        "{reading} {weighing} {measuring} {writing} {}",
         report.len()
     )?;
     Ok(())

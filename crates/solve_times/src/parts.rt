@@ -1,5 +1,6 @@
 ghost use Rattle.std.specs.Prelude.{◌≤◌};
 
+use crate::measuring::measure;
 use crate::refusal::TimesRefusal;
 use hyper_model::Plan;
 use plan_reader::read_plan;
@@ -24,14 +25,14 @@ pub(crate) struct Parts {
     pub(crate) reading: u128,
     /// From the plan to the weights of its states.
     pub(crate) weighing: u128,
-    /// From the plan to the ends of all measures, the weights included.
-    pub(crate) enclosing: u128,
+    /// From the weights to the ends of all measures.
+    pub(crate) measuring: u128,
     /// From the ends to the report.
     pub(crate) writing: u128,
 }
 
-/// Solves the plan of a text by so many workers, and looks at the clock around each part. The weights are found twice:
-/// once alone, and once on the way to the measures.
+/// Solves the plan of a text by so many workers, and looks at the clock around each part. What is reported is found
+/// once more, since the solver hands out weights or measures, and not both.
 pub(crate) fn solve<R: Threads + Sync + Clock>(
     rt: &R,
     alloc: Global,
@@ -44,32 +45,34 @@ pub(crate) fn solve<R: Threads + Sync + Clock>(
     let start = Instant::now(rt)?;
     let plan = read_plan(alloc, text)?;
     let reading = start.elapsed(rt)?.as_nanos();
-    let weighing = weigh(rt, alloc, &plan, workers)?;
-    let start = Instant::now(rt)?;
+    let (weighing, measuring) = weigh(rt, alloc, &plan, workers)?;
     let found = enclose_with(rt, alloc, &plan, workers, &OpenGate, 0)?;
-    let enclosing = start.elapsed(rt)?.as_nanos();
     let start = Instant::now(rt)?;
     let text = report(alloc, &plan, &found, ANY, false)?;
     let writing = start.elapsed(rt)?.as_nanos();
     let parts = Parts {
         reading,
         weighing,
-        enclosing,
+        measuring,
         writing,
     };
     Ok((text, parts))
 }
 
+// The nanoseconds of the weights, and of the measures.
 fn weigh<R: Threads + Sync + Clock>(
     rt: &R,
     alloc: Global,
     plan: &Plan,
     workers: u32,
-) -> io::Result<u128>
+) -> io::Result<(u128, u128)>
     requires some { 1 ≤ workers }
     requires most { workers ≤ 16 }
 {
     let start = Instant::now(rt)?;
-    let _weighed = Solver::reserved(alloc, plan)?.weigh_with(rt, workers, &OpenGate, 0);
-    Ok(start.elapsed(rt)?.as_nanos())
+    let weighed = Solver::reserved(alloc, plan)?.weigh_with(rt, workers, &OpenGate, 0);
+    let weighing = start.elapsed(rt)?.as_nanos();
+    let middle = Instant::now(rt)?;
+    measure(alloc, plan, &weighed)?;
+    Ok((weighing, middle.elapsed(rt)?.as_nanos()))
 }
