@@ -1,4 +1,7 @@
-"""Runs a command, and prints its seconds and the most memory that it had, in megabytes: whole.py COMMAND WORDS.."""
+"""Runs a command, and prints its status, its seconds, and the most memory that it had, in megabytes: whole.py COMMAND WORDS..
+
+The memory is at least that of this program, some 13 megabytes, which the command begins in.
+"""
 
 import resource
 import subprocess
