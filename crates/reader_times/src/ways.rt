@@ -5,7 +5,7 @@ use std::fmt;
 
 /// How a text is read.
 #[derive(Clone, Copy, Debug)]
-pub enum Way {
+pub(crate) enum Way {
     /// Each record's fields by the CSV reader alone, with the settings of the plan reader.
     Fields,
     /// The whole plan.
@@ -22,7 +22,7 @@ impl fmt::Display for Way {
 }
 
 /// Reads a text, and says what was found in it.
-pub fn read(alloc: Global, way: Way, text: &[u8]) -> Result<String, AllocError> {
+pub(crate) fn read(alloc: Global, way: Way, text: &[u8]) -> Result<String, AllocError> {
     match way {
         Way::Fields => {
             let records = count_records(alloc, text)?;
