@@ -12,7 +12,7 @@ use Rattle.hyper_model.specs.declared.parts.PlanParts.{PlanParts}
 use Rattle.hyper_model.specs.Sums.{sum_below}
 use Rattle.hyper_model.specs.Plans.{units, atoms, service_of, calls_of, all_calls, all_service, is_inside, district_calls, split}
 use Rattle.hyper_model.specs.Solutions.{mass_in}
-use Rattle.hyper_model.specs.Measures.{queued, base, taken_mass, dispatched, dispatched_inside, dispatched_outside, dispatched_by, ContainsRatio, measure_of, is_without, scale_of, IsFoundOf, IsContained}
+use Rattle.hyper_model.specs.Measures.{queued_mass, base, taken_mass, dispatch_flow, dispatch_flow_inside, dispatch_flow_outside, dispatch_flow_by, ContainsRatio, measure_of, is_without, scale_of, IsFoundOf, IsContained}
 use Rattle.hyper_model.proofs.Sums.{sum-same, sum-add, sum-scaled, sum-at, sum_split, place_le_sum, cond_scaled}
 use Rattle.hyper_model.proofs.Masses.{dispatched_to_atom, dispatched_parts}
 use Rattle.busy_words.specs.Algebra.{where_ends}
@@ -57,17 +57,17 @@ module _ (p : PlanParts) (xs : List ℕ) (z : ℕ) (parts : PartList) (h : HasPa
   whole = all_service p * split p * base p (mass_in xs) z
 
   sent_holds : (n j : ℕ) → n < units p → j < atoms p
-      → Encloses (sent_ends p parts n j) (2 ^ 62 * dispatched p (mass_in xs) z n j) whole
+      → Encloses (sent_ends p parts n j) (2 ^ 62 * dispatch_flow p (mass_in xs) z n j) whole
   sent_holds n j l k =
       sent_is (taken_by parts n j) (help_of parts n) (calls_of p j) (all_service p) (split p)
-      (taken_mass p (mass_in xs) n j) (service_of p n) (queued p (mass_in xs) z) (base p (mass_in xs) z)
+      (taken_mass p (mass_in xs) n j) (service_of p n) (queued_mass p (mass_in xs) z) (base p (mass_in xs) z)
       (h.taken n j l k) (h.help n l)
 
-  part_of_calls : (n j : ℕ) → n < units p → j < atoms p → dispatched p (mass_in xs) z n j ≤ all_calls p * whole
+  part_of_calls : (n j : ℕ) → n < units p → j < atoms p → dispatch_flow p (mass_in xs) z n j ≤ all_calls p * whole
   part_of_calls n j l k =
       omega (
         arith,
-        place_le_sum (units p) (λ m. dispatched p (mass_in xs) z m j) n l,
+        place_le_sum (units p) (λ m. dispatch_flow p (mass_in xs) z m j) n l,
         dispatched_to_atom p h.accepted (mass_in xs) z j k,
         mul-le-mul_right whole (place_le_sum (atoms p) (calls_of p) j k),
       )
@@ -77,53 +77,53 @@ module _ (p : PlanParts) (xs : List ℕ) (z : ℕ) (parts : PartList) (h : HasPa
     refl,
     contains_from
         (quotient_ends (scaled_ends 1000000 (sent_ends p parts n j)) (exact_ends (all_calls p * 2 ^ 62)) 1000000) 1000000
-        (dispatched p (mass_in xs) z n j) (all_calls p * whole) (measure_of p (mass_in xs) z (measure.Dispatch n j)) refl
+        (dispatch_flow p (mass_in xs) z n j) (all_calls p * whole) (measure_of p (mass_in xs) z (measure.Dispatch n j)) refl
         (times_grouped (all_calls p) (all_service p) (split p) (base p (mass_in xs) z))
-        (fraction_is (sent_ends p parts n j) (all_calls p) (dispatched p (mass_in xs) z n j) whole (part_of_calls n j l k)
+        (fraction_is (sent_ends p parts n j) (all_calls p) (dispatch_flow p (mass_in xs) z n j) whole (part_of_calls n j l k)
         (sent_holds n j l k)),
   )
 
   abbrev side_flow : Bool → ℕ → ℕ → ℕ
-  side_flow inside n m = sum_below (atoms p) (λ j. cond (is_on_side p m inside j) (dispatched p (mass_in xs) z n j) 0)
+  side_flow inside n m = sum_below (atoms p) (λ j. cond (is_on_side p m inside j) (dispatch_flow p (mass_in xs) z n j) 0)
 
   side_holds : (inside : Bool) (n m : ℕ) → n < units p
       → Encloses (side_ends p parts inside n m) (2 ^ 62 * side_flow inside n m) whole
   side_holds inside n m l =
       subst (λ k. Encloses (side_ends p parts inside n m) k whole)
-      (choice_scaled (atoms p) (2 ^ 62) (is_on_side p m inside) (dispatched p (mass_in xs) z n))
+      (choice_scaled (atoms p) (2 ^ 62) (is_on_side p m inside) (dispatch_flow p (mass_in xs) z n))
       (encloses_total (atoms p) (λ j. where_ends (is_on_side p m inside j) (sent_ends p parts n j))
-      (λ j. cond (is_on_side p m inside j) (2 ^ 62 * dispatched p (mass_in xs) z n j) 0) whole
-      (λ j k. encloses_where (is_on_side p m inside j) (sent_ends p parts n j) (2 ^ 62 * dispatched p (mass_in xs) z n j) whole
+      (λ j. cond (is_on_side p m inside j) (2 ^ 62 * dispatch_flow p (mass_in xs) z n j) 0) whole
+      (λ j k. encloses_where (is_on_side p m inside j) (sent_ends p parts n j) (2 ^ 62 * dispatch_flow p (mass_in xs) z n j) whole
       (λ on. sent_holds n j l k)))
 
   inside_holds : (n m : ℕ) → n < units p
-      → Encloses (side_ends p parts true n m) (2 ^ 62 * dispatched_inside p (mass_in xs) z n m) whole
+      → Encloses (side_ends p parts true n m) (2 ^ 62 * dispatch_flow_inside p (mass_in xs) z n m) whole
   inside_holds n m l = side_holds true n m l
 
   outside_holds : (n m : ℕ) → n < units p
-      → Encloses (side_ends p parts false n m) (2 ^ 62 * dispatched_outside p (mass_in xs) z n m) whole
+      → Encloses (side_ends p parts false n m) (2 ^ 62 * dispatch_flow_outside p (mass_in xs) z n m) whole
   outside_holds n m l =
       subst (λ k. Encloses (side_ends p parts false n m) (2 ^ 62 * k) whole)
-      (sum-same (atoms p) (λ j. cond (not (is_inside p m j)) (dispatched p (mass_in xs) z n j) 0)
-      (λ j. cond (is_inside p m j) 0 (dispatched p (mass_in xs) z n j))
-      (λ j k. turned_round (is_inside p m j) (dispatched p (mass_in xs) z n j)))
+      (sum-same (atoms p) (λ j. cond (not (is_inside p m j)) (dispatch_flow p (mass_in xs) z n j) 0)
+      (λ j. cond (is_inside p m j) 0 (dispatch_flow p (mass_in xs) z n j))
+      (λ j k. turned_round (is_inside p m j) (dispatch_flow p (mass_in xs) z n j)))
       (side_holds false n m l)
 
   both_sides : (n : ℕ)
-      → dispatched_outside p (mass_in xs) z n n + dispatched_inside p (mass_in xs) z n n ≡ dispatched_by p (mass_in xs) z n
+      → dispatch_flow_outside p (mass_in xs) z n n + dispatch_flow_inside p (mass_in xs) z n n ≡ dispatch_flow_by p (mass_in xs) z n
   both_sides n =
-      add_comm (dispatched_outside p (mass_in xs) z n n) (dispatched_inside p (mass_in xs) z n n)
+      add_comm (dispatch_flow_outside p (mass_in xs) z n n) (dispatch_flow_inside p (mass_in xs) z n n)
       ∙ dispatched_parts p (mass_in xs) z n n
 
   unit_contained : (n : ℕ) → n < units p → IsContained p (mass_in xs) z (unit_share p parts n)
   unit_contained n l = (
     refl,
     contains_from (share_ends 1000000 (side_ends p parts false n n) (side_ends p parts true n n)) 1000000
-        (dispatched_outside p (mass_in xs) z n n)
-        (dispatched_outside p (mass_in xs) z n n + dispatched_inside p (mass_in xs) z n n)
+        (dispatch_flow_outside p (mass_in xs) z n n)
+        (dispatch_flow_outside p (mass_in xs) z n n + dispatch_flow_inside p (mass_in xs) z n n)
         (measure_of p (mass_in xs) z (measure.InterdistrictUnit n)) refl (both_sides n)
-        (share_is (side_ends p parts false n n) (side_ends p parts true n n) 1000000 (dispatched_outside p (mass_in xs) z n n)
-        (dispatched_inside p (mass_in xs) z n n) whole (outside_holds n n l) (inside_holds n n l)),
+        (share_is (side_ends p parts false n n) (side_ends p parts true n n) 1000000 (dispatch_flow_outside p (mass_in xs) z n n)
+        (dispatch_flow_inside p (mass_in xs) z n n) whole (outside_holds n n l) (inside_holds n n l)),
   )
 
   -- of all units
@@ -134,58 +134,58 @@ module _ (p : PlanParts) (xs : List ℕ) (z : ℕ) (parts : PartList) (h : HasPa
       subst (λ k. Encloses (region_ends p parts inside) k whole) (sum-scaled (units p) (2 ^ 62) flow)
       (encloses_total (units p) (λ n. side_ends p parts inside n n) (λ n. 2 ^ 62 * flow n) whole each)
 
-  all_sides : sum_below (units p) (λ n. dispatched_outside p (mass_in xs) z n n)
-      + sum_below (units p) (λ n. dispatched_inside p (mass_in xs) z n n)
-      ≡ sum_below (units p) (dispatched_by p (mass_in xs) z)
+  all_sides : sum_below (units p) (λ n. dispatch_flow_outside p (mass_in xs) z n n)
+      + sum_below (units p) (λ n. dispatch_flow_inside p (mass_in xs) z n n)
+      ≡ sum_below (units p) (dispatch_flow_by p (mass_in xs) z)
   all_sides =
-      sym (sum-add (units p) (λ n. dispatched_outside p (mass_in xs) z n n) (λ n. dispatched_inside p (mass_in xs) z n n))
-      ∙ sum-same (units p) (λ n. dispatched_outside p (mass_in xs) z n n + dispatched_inside p (mass_in xs) z n n)
-      (dispatched_by p (mass_in xs) z) (λ n l. both_sides n)
+      sym (sum-add (units p) (λ n. dispatch_flow_outside p (mass_in xs) z n n) (λ n. dispatch_flow_inside p (mass_in xs) z n n))
+      ∙ sum-same (units p) (λ n. dispatch_flow_outside p (mass_in xs) z n n + dispatch_flow_inside p (mass_in xs) z n n)
+      (dispatch_flow_by p (mass_in xs) z) (λ n l. both_sides n)
 
   region_contained : IsContained p (mass_in xs) z (region_share p parts)
   region_contained = (
     refl,
     contains_from (share_ends 1000000 (region_ends p parts false) (region_ends p parts true)) 1000000
-        (sum_below (units p) (λ n. dispatched_outside p (mass_in xs) z n n))
-        (sum_below (units p) (λ n. dispatched_outside p (mass_in xs) z n n)
-        + sum_below (units p) (λ n. dispatched_inside p (mass_in xs) z n n))
+        (sum_below (units p) (λ n. dispatch_flow_outside p (mass_in xs) z n n))
+        (sum_below (units p) (λ n. dispatch_flow_outside p (mass_in xs) z n n)
+        + sum_below (units p) (λ n. dispatch_flow_inside p (mass_in xs) z n n))
         (measure_of p (mass_in xs) z measure.Interdistrict) refl all_sides
         (share_is (region_ends p parts false) (region_ends p parts true) 1000000
-        (sum_below (units p) (λ n. dispatched_outside p (mass_in xs) z n n))
-        (sum_below (units p) (λ n. dispatched_inside p (mass_in xs) z n n)) whole
-        (region_holds false (λ n. dispatched_outside p (mass_in xs) z n n) (λ n l. outside_holds n n l))
-        (region_holds true (λ n. dispatched_inside p (mass_in xs) z n n) (λ n l. inside_holds n n l))),
+        (sum_below (units p) (λ n. dispatch_flow_outside p (mass_in xs) z n n))
+        (sum_below (units p) (λ n. dispatch_flow_inside p (mass_in xs) z n n)) whole
+        (region_holds false (λ n. dispatch_flow_outside p (mass_in xs) z n n) (λ n l. outside_holds n n l))
+        (region_holds true (λ n. dispatch_flow_inside p (mass_in xs) z n n) (λ n l. inside_holds n n l))),
   )
 
   abbrev others_flow : ℕ → ℕ
-  others_flow n = sum_below (units p) (λ m. cond (eqb m n) 0 (dispatched_inside p (mass_in xs) z m n))
+  others_flow n = sum_below (units p) (λ m. cond (eqb m n) 0 (dispatch_flow_inside p (mass_in xs) z m n))
 
   others_same : (n : ℕ)
-      → sum_below (units p) (λ m. cond (not (eqb m n)) (dispatched_inside p (mass_in xs) z m n) 0) ≡ others_flow n
+      → sum_below (units p) (λ m. cond (not (eqb m n)) (dispatch_flow_inside p (mass_in xs) z m n) 0) ≡ others_flow n
   others_same n =
-      sum-same (units p) (λ m. cond (not (eqb m n)) (dispatched_inside p (mass_in xs) z m n) 0)
-      (λ m. cond (eqb m n) 0 (dispatched_inside p (mass_in xs) z m n))
-      (λ m l. turned_round (eqb m n) (dispatched_inside p (mass_in xs) z m n))
+      sum-same (units p) (λ m. cond (not (eqb m n)) (dispatch_flow_inside p (mass_in xs) z m n) 0)
+      (λ m. cond (eqb m n) 0 (dispatch_flow_inside p (mass_in xs) z m n))
+      (λ m l. turned_round (eqb m n) (dispatch_flow_inside p (mass_in xs) z m n))
 
   others_hold : (n : ℕ) → Encloses (others_ends p parts n) (2 ^ 62 * others_flow n) whole
   others_hold n =
       subst (λ k. Encloses (others_ends p parts n) k whole)
-      (choice_scaled (units p) (2 ^ 62) (λ m. not (eqb m n)) (λ m. dispatched_inside p (mass_in xs) z m n)
+      (choice_scaled (units p) (2 ^ 62) (λ m. not (eqb m n)) (λ m. dispatch_flow_inside p (mass_in xs) z m n)
       ∙ ap (λ k. 2 ^ 62 * k) (others_same n))
       (encloses_total (units p) (λ m. where_ends (not (eqb m n)) (side_ends p parts true m n))
-      (λ m. cond (not (eqb m n)) (2 ^ 62 * dispatched_inside p (mass_in xs) z m n) 0) whole
-      (λ m l. encloses_where (not (eqb m n)) (side_ends p parts true m n) (2 ^ 62 * dispatched_inside p (mass_in xs) z m n) whole
+      (λ m. cond (not (eqb m n)) (2 ^ 62 * dispatch_flow_inside p (mass_in xs) z m n) 0) whole
+      (λ m l. encloses_where (not (eqb m n)) (side_ends p parts true m n) (2 ^ 62 * dispatch_flow_inside p (mass_in xs) z m n) whole
       (λ other. inside_holds m n l)))
 
   -- the district's own unit and the others
   all_units : (n : ℕ) → n < units p
-      → others_flow n + dispatched_inside p (mass_in xs) z n n ≡ sum_below (units p) (λ m. dispatched_inside p (mass_in xs) z m n)
+      → others_flow n + dispatch_flow_inside p (mass_in xs) z n n ≡ sum_below (units p) (λ m. dispatch_flow_inside p (mass_in xs) z m n)
   all_units n l =
       omega (
         arith,
         others_same n,
-        sum_split (units p) (λ m. eqb m n) (λ m. dispatched_inside p (mass_in xs) z m n),
-        sum-at (units p) (λ m. dispatched_inside p (mass_in xs) z m n) n l,
+        sum_split (units p) (λ m. eqb m n) (λ m. dispatch_flow_inside p (mass_in xs) z m n),
+        sum-at (units p) (λ m. dispatch_flow_inside p (mass_in xs) z m n) n l,
       )
 
   district_contained : (n : ℕ) → n < units p → IsContained p (mass_in xs) z (district_share p parts n)
@@ -193,10 +193,10 @@ module _ (p : PlanParts) (xs : List ℕ) (z : ℕ) (parts : PartList) (h : HasPa
       found_where p (mass_in xs) z (measure.InterdistrictDistrict n) (eqb (district_calls p n) 0)
       (share_ends 1000000 (others_ends p parts n) (side_ends p parts true n n)) refl
       (contains_from (share_ends 1000000 (others_ends p parts n) (side_ends p parts true n n)) 1000000 (others_flow n)
-      (others_flow n + dispatched_inside p (mass_in xs) z n n)
+      (others_flow n + dispatch_flow_inside p (mass_in xs) z n n)
       (measure_of p (mass_in xs) z (measure.InterdistrictDistrict n)) refl (all_units n l)
       (share_is (others_ends p parts n) (side_ends p parts true n n) 1000000 (others_flow n)
-      (dispatched_inside p (mass_in xs) z n n) whole (others_hold n) (inside_holds n n l)))
+      (dispatch_flow_inside p (mass_in xs) z n n) whole (others_hold n) (inside_holds n n l)))
 
 pub fractions_contained : (p : PlanParts) (parts : PartList) → AreContained p parts (fractions_of p parts)
 fractions_contained p parts xs z h =

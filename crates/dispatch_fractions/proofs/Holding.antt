@@ -11,7 +11,7 @@ use Rattle.hyper_model.specs.declared.kinds.Line.TheVariants as line
 use Rattle.hyper_model.specs.declared.parts.PlanParts.{PlanParts}
 use Rattle.hyper_model.specs.Plans.{units, atoms, service_of, all_service, split, IsAccepted}
 use Rattle.hyper_model.specs.Solutions.{mass_in}
-use Rattle.hyper_model.specs.Measures.{queued_on, queued, base_on, base, taken_mass}
+use Rattle.hyper_model.specs.Measures.{queued_mass_on, queued_mass, base_on, base, taken_mass}
 use Rattle.hyper_model.proofs.Sums.{place_le_sum}
 use Rattle.hyper_model.proofs.Masses.{service_total_positive}
 use Rattle.busy_words.specs.Order.{WordOrder}
@@ -51,22 +51,22 @@ parts_are p order w = record {
 
 module _ (p : PlanParts) (a : IsAccepted p) (order : WordOrder) (o : IsOrderOf p order) (items : List Ends)
     (xs : List ℕ) (z : ℕ) (e : EnclosesSolution p order items xs z) where
-  waiting_holds : Encloses (waiting_on p.line (full_part p (ends_at items))) (2 ^ 62 * queued p (mass_in xs) z)
+  waiting_holds : Encloses (waiting_on p.line (full_part p (ends_at items))) (2 ^ 62 * queued_mass p (mass_in xs) z)
       (base p (mass_in xs) z)
   waiting_holds = on_line p.line
     where
       on_line : (l : Line)
-          → Encloses (waiting_on l (full_part p (ends_at items))) (2 ^ 62 * queued_on l p (mass_in xs) z)
+          → Encloses (waiting_on l (full_part p (ends_at items))) (2 ^ 62 * queued_mass_on l p (mass_in xs) z)
           (base_on l p (mass_in xs) z)
       on_line line.Zero = record { low = omega arith; high = omega arith }
       on_line line.Infinite = full_part_encloses p order o items xs z e
 
   help_holds : (n : ℕ)
-      → Encloses (help_from p (full_part p (ends_at items)) n) (2 ^ 62 * queued p (mass_in xs) z * service_of p n)
+      → Encloses (help_from p (full_part p (ends_at items)) n) (2 ^ 62 * queued_mass p (mass_in xs) z * service_of p n)
       (all_service p * base p (mass_in xs) z)
   help_holds n =
       encloses_ratio (waiting_on p.line (full_part p (ends_at items))) (help_from p (full_part p (ends_at items)) n)
-      (service_of p n) (all_service p) (service_total_positive p a) refl (2 ^ 62 * queued p (mass_in xs) z)
+      (service_of p n) (all_service p) (service_total_positive p a) refl (2 ^ 62 * queued_mass p (mass_in xs) z)
       (base p (mass_in xs) z) waiting_holds
 
   pub has_parts : (parts : PartList) → ArePartsOf p order (ends_at items) parts → HasParts p xs z parts
@@ -77,9 +77,9 @@ module _ (p : PlanParts) (a : IsAccepted p) (order : WordOrder) (o : IsOrderOf p
         subst (λ r. Encloses r (2 ^ 62 * taken_mass p (mass_in xs) n j) (split p * base p (mass_in xs) z))
         (sym (is.taken n j l k)) (taken_part_encloses p order o items xs z e a n j l);
     waiting =
-        subst (λ r. Encloses (waiting_on p.line r) (2 ^ 62 * queued p (mass_in xs) z) (base p (mass_in xs) z))
+        subst (λ r. Encloses (waiting_on p.line r) (2 ^ 62 * queued_mass p (mass_in xs) z) (base p (mass_in xs) z))
         (sym is.full) waiting_holds;
     help = λ n l.
-        subst (λ r. Encloses r (2 ^ 62 * queued p (mass_in xs) z * service_of p n)
+        subst (λ r. Encloses r (2 ^ 62 * queued_mass p (mass_in xs) z * service_of p n)
         (all_service p * base p (mass_in xs) z)) (sym (is.help n l)) (help_holds n);
   }

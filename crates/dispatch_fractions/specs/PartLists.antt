@@ -10,7 +10,7 @@ use Rattle.hyper_model.specs.declared.kinds.Line.TheVariants as line
 use Rattle.hyper_model.specs.declared.parts.PlanParts.{PlanParts}
 use Rattle.hyper_model.specs.Plans.{units, atoms, service_of, all_service, split, IsAccepted}
 use Rattle.hyper_model.specs.Solutions.{mass_in, IsSolution}
-use Rattle.hyper_model.specs.Measures.{queued, base, taken_mass}
+use Rattle.hyper_model.specs.Measures.{queued_mass, base, taken_mass}
 use Rattle.busy_words.specs.Order.{WordOrder}
 use Rattle.busy_words.specs.WeightParts.{full_part, taken_part}
 
@@ -71,7 +71,7 @@ pub record HasParts (p : PlanParts) (xs : List ℕ) (z : ℕ) (parts : PartList)
   pub solves : IsSolution p xs z
   pub taken : (n j : ℕ) → n < units p → j < atoms p
       → Encloses (taken_by parts n j) (2 ^ 62 * taken_mass p (mass_in xs) n j) (split p * base p (mass_in xs) z)
-  pub waiting : Encloses (waiting_on p.line parts.full) (2 ^ 62 * queued p (mass_in xs) z) (base p (mass_in xs) z)
+  pub waiting : Encloses (waiting_on p.line parts.full) (2 ^ 62 * queued_mass p (mass_in xs) z) (base p (mass_in xs) z)
   pub help : (n : ℕ) → n < units p
-      → Encloses (help_of parts n) (2 ^ 62 * queued p (mass_in xs) z * service_of p n)
+      → Encloses (help_of parts n) (2 ^ 62 * queued_mass p (mass_in xs) z * service_of p n)
       (all_service p * base p (mass_in xs) z)

@@ -7,7 +7,7 @@ use Rattle.std.proofs.Math.Pow.{pow-lt}
 use Rattle.std.proofs.lemmas.Bool.Decides.{nat_tests}
 use Rattle.std.proofs.lemmas.Nat.{xor_lt}
 use Rattle.std.proofs.lemmas.Nat.Bits.{bit_at_xor, bit_at-pow_same, bit_at-pow_other, bit_at-lt, bit_at-zero, bit_at_ones, bit_at_ones_above, bit_at_above, and_pow, same_from_bits}
-use Rattle.hyper_model.specs.Words.{is_busy, turned}
+use Rattle.hyper_model.specs.Words.{is_busy, turned_word}
 use Rattle.hyper_model.proofs.Sums.{on_test}
 
 pub busy_bit : (w n : ℕ) → is_busy w n ≡ true → bit_at w n ≡ 1
@@ -17,11 +17,11 @@ pub free_bit : (w n : ℕ) → is_busy w n ≡ false → bit_at w n ≡ 0
 free_bit w n h =
     let ne : bit_at w n ≢ 1 = eqb-false (bit_at w n) 1 h in omega (arith, bit_at-lt w n, ne)
 
-pub turned_twice : (w n : ℕ) → turned (turned w n) n ≡ w
+pub turned_twice : (w n : ℕ) → turned_word (turned_word w n) n ≡ w
 turned_twice w n =
     xor_assoc w (2 ^ n) (2 ^ n) ∙ ap (λ a. bit_xor w a) (xor_self (2 ^ n)) ∙ xor_zero_r w
 
-pub turned_lt : (k w n : ℕ) → w < 2 ^ k → n < k → turned w n < 2 ^ k
+pub turned_lt : (k w n : ℕ) → w < 2 ^ k → n < k → turned_word w n < 2 ^ k
 turned_lt k w n h l = xor_lt k w (2 ^ n) h (pow-lt l)
 
 other_digit : (a b c : ℕ) → a < 2 → b ≡ 1 → c ≡ (a + b) % 2 → eqb c 1 ≡ not (eqb a 1)
@@ -36,9 +36,9 @@ other_digit (suc zero) b c l e f = digit_of c (f ∙ ap (λ k. (1 + k) % 2) e)
 other_digit (suc (suc a)) b c l e f = absurd (omega arith)
 
 -- the unit itself changes
-pub busy_turned : (w n : ℕ) → is_busy (turned w n) n ≡ not (is_busy w n)
+pub busy_turned : (w n : ℕ) → is_busy (turned_word w n) n ≡ not (is_busy w n)
 busy_turned w n =
-    other_digit (bit_at w n) (bit_at (2 ^ n) n) (bit_at (turned w n) n) (bit_at-lt w n) (bit_at-pow_same n)
+    other_digit (bit_at w n) (bit_at (2 ^ n) n) (bit_at (turned_word w n) n) (bit_at-lt w n) (bit_at-pow_same n)
     (bit_at_xor w (2 ^ n) n)
 
 same_digit : (a b c : ℕ) → a < 2 → b ≡ 0 → c ≡ (a + b) % 2 → c ≡ a
@@ -47,24 +47,24 @@ same_digit (suc zero) b c l e f = f ∙ ap (λ k. (1 + k) % 2) e
 same_digit (suc (suc a)) b c l e f = absurd (omega arith)
 
 -- and no other
-pub busy_turned_other : (w n i : ℕ) → i ≢ n → is_busy (turned w n) i ≡ is_busy w i
+pub busy_turned_other : (w n i : ℕ) → i ≢ n → is_busy (turned_word w n) i ≡ is_busy w i
 busy_turned_other w n i ne =
     ap (λ a. eqb a 1)
-    (same_digit (bit_at w i) (bit_at (2 ^ n) i) (bit_at (turned w n) i) (bit_at-lt w i) (bit_at-pow_other n i ne)
+    (same_digit (bit_at w i) (bit_at (2 ^ n) i) (bit_at (turned_word w n) i) (bit_at-lt w i) (bit_at-pow_other n i ne)
     (bit_at_xor w (2 ^ n) i))
 
-pub turned_free : (w n : ℕ) → is_busy w n ≡ false → turned w n ≡ w + 2 ^ n
+pub turned_free : (w n : ℕ) → is_busy w n ≡ false → turned_word w n ≡ w + 2 ^ n
 turned_free w n h =
     omega (arith, xor_add_and w (2 ^ n), and_pow w n, ap (λ a. a * 2 ^ n) (free_bit w n h))
 
-pub turned_busy : (w n : ℕ) → is_busy w n ≡ true → turned w n + 2 ^ n ≡ w
+pub turned_busy : (w n : ℕ) → is_busy w n ≡ true → turned_word w n + 2 ^ n ≡ w
 turned_busy w n h =
     omega (arith, xor_add_and w (2 ^ n), and_pow w n, ap (λ a. a * 2 ^ n) (busy_bit w n h))
 
-pub turned_up : (w n : ℕ) → is_busy w n ≡ false → w < turned w n
+pub turned_up : (w n : ℕ) → is_busy w n ≡ false → w < turned_word w n
 turned_up w n h = omega (arith, turned_free w n h, pow_pos n)
 
-pub turned_down : (w n : ℕ) → is_busy w n ≡ true → turned w n < w
+pub turned_down : (w n : ℕ) → is_busy w n ≡ true → turned_word w n < w
 turned_down w n h = omega (arith, turned_busy w n h, pow_pos n)
 
 pub full_busy : (k n : ℕ) → n < k → is_busy (2 ^ k - 1) n ≡ true

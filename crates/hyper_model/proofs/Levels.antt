@@ -4,7 +4,7 @@ use Rattle.std.proofs.lemmas.Bool.Decides.{nat_tests}
 use Rattle.hyper_model.specs.declared.parts.PlanParts.{PlanParts}
 use Rattle.hyper_model.specs.Sums.{sum_below}
 use Rattle.hyper_model.specs.Plans.{units, service_of, all_calls, split, IsAccepted}
-use Rattle.hyper_model.specs.Words.{words, is_busy, full_word, turned}
+use Rattle.hyper_model.specs.Words.{words, is_busy, full_word, turned_word}
 use Rattle.hyper_model.specs.Rates.{up}
 use Rattle.hyper_model.specs.Solutions.{mass_in}
 use Rattle.hyper_model.specs.Tables.{turn_rate}
@@ -15,13 +15,13 @@ use Rattle.hyper_model.proofs.Takers.{up_busy, up_all, split_positive}
 use Rattle.hyper_model.proofs.WordTables.{rate_busy, rate_free, coming_is, leaving_is}
 
 count_changed : (n w k : ℕ) → k < n
-    → level n (turned w k) + cond (is_busy w k) 1 0 ≡ level n w + cond (is_busy (turned w k) k) 1 0
+    → level n (turned_word w k) + cond (is_busy w k) 1 0 ≡ level n w + cond (is_busy (turned_word w k) k) 1 0
 count_changed n w k l =
-    sum_changed n (λ i. cond (is_busy (turned w k) i) 1 0) (λ i. cond (is_busy w i) 1 0) k l
+    sum_changed n (λ i. cond (is_busy (turned_word w k) i) 1 0) (λ i. cond (is_busy w i) 1 0) k l
     (λ i m ne. ap {B = ℕ} (λ c. cond c 1 0) (busy_turned_other w k i ne))
 
 -- a unit that is sent raises the level by one, and one that ends its service lowers it
-pub level_up : (n w k : ℕ) → k < n → is_busy w k ≡ false → level n (turned w k) ≡ level n w + 1
+pub level_up : (n w k : ℕ) → k < n → is_busy w k ≡ false → level n (turned_word w k) ≡ level n w + 1
 level_up n w k l f =
     omega (
       arith,
@@ -30,7 +30,7 @@ level_up n w k l f =
       ap {B = ℕ} (λ c. cond c 1 0) (busy_turned w k ∙ ap not f),
     )
 
-pub level_down : (n w k : ℕ) → k < n → is_busy w k ≡ true → level n (turned w k) + 1 ≡ level n w
+pub level_down : (n w k : ℕ) → k < n → is_busy w k ≡ true → level n (turned_word w k) + 1 ≡ level n w
 level_down n w k l b =
     omega (
       arith,
@@ -68,7 +68,7 @@ module _ (p : PlanParts) (a : IsAccepted p) (x : ℕ → ℕ) (k : ℕ) (l : k <
   out w n = cond (leb (level (units p) w) k) (turn_rate p w n) 0
 
   abbrev into : ℕ → ℕ → ℕ
-  into w n = cond (leb (level (units p) (turned w n)) k) (turn_rate p w n) 0
+  into w n = cond (leb (level (units p) (turned_word w n)) k) (turn_rate p w n) 0
 
   abbrev ends : ℕ → ℕ → ℕ
   ends w n = cond (eqb (level (units p) w) (k + 1)) (cond (is_busy w n) (split p * service_of p n) 0) 0
@@ -82,20 +82,20 @@ module _ (p : PlanParts) (a : IsAccepted p) (x : ℕ → ℕ) (k : ℕ) (l : k <
       omega (
         arith,
         ap (λ c. cond (leb (level (units p) w) k) c 0) (rate_busy p w n b),
-        ap (λ c. cond (leb (level (units p) (turned w n)) k) c 0) (rate_busy p w n b),
+        ap (λ c. cond (leb (level (units p) (turned_word w n)) k) c 0) (rate_busy p w n b),
         ap (λ c. cond (eqb (level (units p) w) (k + 1)) (cond c (split p * service_of p n) 0) 0) b,
         nothing (eqb (level (units p) w) k) (up p w n) (up_busy p w n b),
-        same_low (level (units p) w) (level (units p) (turned w n)) k (split p * service_of p n)
+        same_low (level (units p) w) (level (units p) (turned_word w n)) k (split p * service_of p n)
             (level_down (units p) w n h b),
       ))
       (λ f.
       omega (
         arith,
         ap (λ c. cond (leb (level (units p) w) k) c 0) (rate_free p w n f),
-        ap (λ c. cond (leb (level (units p) (turned w n)) k) c 0) (rate_free p w n f),
+        ap (λ c. cond (leb (level (units p) (turned_word w n)) k) c 0) (rate_free p w n f),
         ap (λ c. cond (eqb (level (units p) w) (k + 1)) (cond c (split p * service_of p n) 0) 0) f,
         nothing (eqb (level (units p) w) (k + 1)) 0 refl,
-        same_high (level (units p) w) (level (units p) (turned w n)) k (up p w n)
+        same_high (level (units p) w) (level (units p) (turned_word w n)) k (up p w n)
             (level_up (units p) w n h f),
       ))
 
@@ -110,37 +110,37 @@ module _ (p : PlanParts) (a : IsAccepted p) (x : ℕ → ℕ) (k : ℕ) (l : k <
 
   -- in a solution as much moves out of these words as into them
   abbrev moved : ℕ → ℕ → ℕ
-  moved n v = cond (leb (level (units p) (turned v n)) k) (x v * turn_rate p v n) 0
+  moved n v = cond (leb (level (units p) (turned_word v n)) k) (x v * turn_rate p v n) 0
 
   module _ (balanced : (w : ℕ) → w < words p
-      → x w * sum_below (units p) (turn_rate p w) ≡ sum_below (units p) (λ n. x (turned w n) * turn_rate p (turned w n) n)) where
-    out_of_word : (w : ℕ) → w < words p → x w * sum_below (units p) (out w) ≡ sum_below (units p) (λ n. moved n (turned w n))
+      → x w * sum_below (units p) (turn_rate p w) ≡ sum_below (units p) (λ n. x (turned_word w n) * turn_rate p (turned_word w n) n)) where
+    out_of_word : (w : ℕ) → w < words p → x w * sum_below (units p) (out w) ≡ sum_below (units p) (λ n. moved n (turned_word w n))
     out_of_word w h =
         ap (λ c. x w * c) (guarded (units p) (leb (level (units p) w) k) (turn_rate p w))
         ∙ cond_scaled (leb (level (units p) w) k) (x w) (sum_below (units p) (turn_rate p w))
         ∙ ap (λ c. cond (leb (level (units p) w) k) c 0) (balanced w h)
-        ∙ sym (guarded (units p) (leb (level (units p) w) k) (λ n. x (turned w n) * turn_rate p (turned w n) n))
+        ∙ sym (guarded (units p) (leb (level (units p) w) k) (λ n. x (turned_word w n) * turn_rate p (turned_word w n) n))
         ∙ sum-same (units p)
-        (λ n. cond (leb (level (units p) w) k) (x (turned w n) * turn_rate p (turned w n) n) 0)
-        (λ n. moved n (turned w n))
-        (λ n m. ap (λ v. cond (leb (level (units p) v) k) (x (turned w n) * turn_rate p (turned w n) n) 0)
+        (λ n. cond (leb (level (units p) w) k) (x (turned_word w n) * turn_rate p (turned_word w n) n) 0)
+        (λ n. moved n (turned_word w n))
+        (λ n m. ap (λ v. cond (leb (level (units p) v) k) (x (turned_word w n) * turn_rate p (turned_word w n) n) 0)
         (sym (turned_twice w n)))
 
     into_word : (w : ℕ) → sum_below (units p) (λ n. moved n w) ≡ x w * sum_below (units p) (into w)
     into_word w =
         sum-same (units p) (λ n. moved n w) (λ n. x w * into w n)
-        (λ n m. sym (cond_scaled (leb (level (units p) (turned w n)) k) (x w) (turn_rate p w n)))
+        (λ n m. sym (cond_scaled (leb (level (units p) (turned_word w n)) k) (x w) (turn_rate p w n)))
         ∙ sum-scaled (units p) (x w) (into w)
 
     cut_balanced : sum_below (words p) (λ w. x w * sum_below (units p) (out w))
         ≡ sum_below (words p) (λ w. x w * sum_below (units p) (into w))
     cut_balanced =
-        sum-same (words p) (λ w. x w * sum_below (units p) (out w)) (λ w. sum_below (units p) (λ n. moved n (turned w n)))
+        sum-same (words p) (λ w. x w * sum_below (units p) (out w)) (λ w. sum_below (units p) (λ n. moved n (turned_word w n)))
         out_of_word
-        ∙ sum-swap (words p) (units p) (λ w n. moved n (turned w n))
-        ∙ sum-same (units p) (λ n. sum_below (words p) (λ w. moved n (turned w n)))
+        ∙ sum-swap (words p) (units p) (λ w n. moved n (turned_word w n))
+        ∙ sum-same (units p) (λ n. sum_below (words p) (λ w. moved n (turned_word w n)))
         (λ n. sum_below (words p) (moved n))
-        (λ n h. sum-permuted (words p) (λ w. turned w n) (λ w. turned w n) (moved n)
+        (λ n h. sum-permuted (words p) (λ w. turned_word w n) (λ w. turned_word w n) (moved n)
         (λ w m. turned_lt (units p) w n m h) (λ w m. turned_lt (units p) w n m h)
         (λ w m. turned_twice w n) (λ w m. turned_twice w n))
         ∙ sum-swap (units p) (words p) moved

@@ -9,9 +9,9 @@ use Rattle.hyper_model.specs.declared.kinds.Line.TheVariants as line
 use Rattle.hyper_model.specs.declared.parts.PlanParts.{PlanParts}
 use Rattle.hyper_model.specs.Sums.{sum_below}
 use Rattle.hyper_model.specs.Plans.{units, atoms, service_of, calls_of, all_calls, all_service, is_inside, district_calls, split, IsAccepted}
-use Rattle.hyper_model.specs.Words.{words, is_busy, full_word, turned, takes, taker_count, portion}
+use Rattle.hyper_model.specs.Words.{words, is_busy, full_word, turned_word, takes, taker_count, portion}
 use Rattle.hyper_model.specs.Solutions.{mass_in, IsSolution}
-use Rattle.hyper_model.specs.Measures.{mass, queued_on, queued, base_on, base, taken_mass, dispatched, dispatched_inside, dispatched_outside, dispatched_by}
+use Rattle.hyper_model.specs.Measures.{mass, queued_mass_on, queued_mass, base_on, base, taken_mass, dispatch_flow, dispatch_flow_inside, dispatch_flow_outside, dispatch_flow_by}
 use Rattle.hyper_model.proofs.Sums.{on_test, sum-same, sum-add, sum-scaled, sum-swap, sum_none, place_le_sum, positive_place, sum_split, choices_sum}
 use Rattle.hyper_model.proofs.Bits.{turned_lt, busy_turned, busy_turned_other, full_busy, free_exists, words_full}
 use Rattle.hyper_model.proofs.Takers.{not_taken, portion_is, takers_positive, split_positive}
@@ -43,7 +43,7 @@ base_positive p a xs z s = on_line p.line
 
 -- the word in which all units but n are busy
 abbrev pub alone_free : PlanParts → ℕ → ℕ
-alone_free p n = turned (full_word p) n
+alone_free p n = turned_word (full_word p) n
 
 alone_is_free : (p : PlanParts) (n : ℕ) → n < units p → is_busy (alone_free p n) n ≡ false
 alone_is_free p n l = busy_turned (full_word p) n ∙ ap not (full_busy (units p) n l)
@@ -99,28 +99,28 @@ service_total_positive p a =
 
 -- each unit answers calls of each atom that has any
 pub dispatched_positive : (p : PlanParts) → IsAccepted p → (xs : List ℕ) (z : ℕ) → IsSolution p xs z
-    → (n j : ℕ) → n < units p → j < atoms p → 0 < calls_of p j → 0 < dispatched p (mass_in xs) z n j
+    → (n j : ℕ) → n < units p → j < atoms p → 0 < calls_of p j → 0 < dispatch_flow p (mass_in xs) z n j
 dispatched_positive p a xs z s n j l k h =
     let taken = mul-pos (service_total_positive p a) (taken_positive p a xs z s n j l k) in
     mul-pos h (omega (arith, taken))
 
 pub dispatched_by_positive : (p : PlanParts) → IsAccepted p → (xs : List ℕ) (z : ℕ) → IsSolution p xs z
-    → (n : ℕ) → n < units p → 0 < dispatched_by p (mass_in xs) z n
+    → (n : ℕ) → n < units p → 0 < dispatch_flow_by p (mass_in xs) z n
 dispatched_by_positive p a xs z s n l =
     let j = positive_place (atoms p) (calls_of p) a.atoms.calls.low in
     omega (
       arith,
       dispatched_positive p a xs z s n j.0 l j.1 j.2,
-      place_le_sum (atoms p) (dispatched p (mass_in xs) z n) j.0 j.1,
+      place_le_sum (atoms p) (dispatch_flow p (mass_in xs) z n) j.0 j.1,
     )
 
 pub dispatched_all_positive : (p : PlanParts) → IsAccepted p → (xs : List ℕ) (z : ℕ) → IsSolution p xs z
-    → 0 < sum_below (units p) (dispatched_by p (mass_in xs) z)
+    → 0 < sum_below (units p) (dispatch_flow_by p (mass_in xs) z)
 dispatched_all_positive p a xs z s =
     omega (
       arith,
       dispatched_by_positive p a xs z s 0 a.units.number.low,
-      place_le_sum (units p) (dispatched_by p (mass_in xs) z) 0 a.units.number.low,
+      place_le_sum (units p) (dispatch_flow_by p (mass_in xs) z) 0 a.units.number.low,
     )
 
 -- a district with calls has an atom with calls
@@ -134,34 +134,34 @@ district_atom p m h =
 
 -- and each unit answers calls of it
 pub dispatched_inside_positive : (p : PlanParts) → IsAccepted p → (xs : List ℕ) (z : ℕ) → IsSolution p xs z
-    → (n m : ℕ) → n < units p → 0 < district_calls p m → 0 < dispatched_inside p (mass_in xs) z n m
+    → (n m : ℕ) → n < units p → 0 < district_calls p m → 0 < dispatch_flow_inside p (mass_in xs) z n m
 dispatched_inside_positive p a xs z s n m l h =
     let j = district_atom p m h in
     omega (
       arith,
       dispatched_positive p a xs z s n j.0 l j.1 j.3,
-      ap (λ c. cond c (dispatched p (mass_in xs) z n j.0) 0) j.2,
-      place_le_sum (atoms p) (λ i. cond (is_inside p m i) (dispatched p (mass_in xs) z n i) 0) j.0 j.1,
+      ap (λ c. cond c (dispatch_flow p (mass_in xs) z n j.0) 0) j.2,
+      place_le_sum (atoms p) (λ i. cond (is_inside p m i) (dispatch_flow p (mass_in xs) z n i) 0) j.0 j.1,
     )
 
 pub dispatched_into_positive : (p : PlanParts) → IsAccepted p → (xs : List ℕ) (z : ℕ) → IsSolution p xs z
-    → (m : ℕ) → 0 < district_calls p m → 0 < sum_below (units p) (λ n. dispatched_inside p (mass_in xs) z n m)
+    → (m : ℕ) → 0 < district_calls p m → 0 < sum_below (units p) (λ n. dispatch_flow_inside p (mass_in xs) z n m)
 dispatched_into_positive p a xs z s m h =
     omega (
       arith,
       dispatched_inside_positive p a xs z s 0 m a.units.number.low h,
-      place_le_sum (units p) (λ n. dispatched_inside p (mass_in xs) z n m) 0 a.units.number.low,
+      place_le_sum (units p) (λ n. dispatch_flow_inside p (mass_in xs) z n m) 0 a.units.number.low,
     )
 
 -- a unit's dispatches are those inside a district and those outside
 pub dispatched_parts : (p : PlanParts) (x : ℕ → ℕ) (z n m : ℕ)
-    → dispatched_inside p x z n m + dispatched_outside p x z n m ≡ dispatched_by p x z n
+    → dispatch_flow_inside p x z n m + dispatch_flow_outside p x z n m ≡ dispatch_flow_by p x z n
 dispatched_parts p x z n m =
-    ap (λ c. dispatched_inside p x z n m + c)
-    (sum-same (atoms p) (λ j. cond (is_inside p m j) 0 (dispatched p x z n j))
-    (λ j. cond (not (is_inside p m j)) (dispatched p x z n j) 0)
-    (λ j l. turned_round (is_inside p m j) (dispatched p x z n j)))
-    ∙ sum_split (atoms p) (λ j. is_inside p m j) (dispatched p x z n)
+    ap (λ c. dispatch_flow_inside p x z n m + c)
+    (sum-same (atoms p) (λ j. cond (is_inside p m j) 0 (dispatch_flow p x z n j))
+    (λ j. cond (not (is_inside p m j)) (dispatch_flow p x z n j) 0)
+    (λ j l. turned_round (is_inside p m j) (dispatch_flow p x z n j)))
+    ∙ sum_split (atoms p) (λ j. is_inside p m j) (dispatch_flow p x z n)
   where
     turned_round : (b : Bool) (k : ℕ) → cond b 0 k ≡ cond (not b) k 0
     turned_round true k = refl
@@ -205,48 +205,48 @@ taken_all p a x j l =
 
 -- and with those that wait they are all that are answered
 pub taken_room : (p : PlanParts) → IsAccepted p → (x : ℕ → ℕ) (z j : ℕ) → j < atoms p
-    → sum_below (units p) (λ n. taken_mass p x n j) + split p * queued p x z ≡ split p * base p x z
-taken_room p a x z j l = ap (λ c. c + split p * queued p x z) (taken_all p a x j l) ∙ on_line p.line
+    → sum_below (units p) (λ n. taken_mass p x n j) + split p * queued_mass p x z ≡ split p * base p x z
+taken_room p a x z j l = ap (λ c. c + split p * queued_mass p x z) (taken_all p a x j l) ∙ on_line p.line
   where
     on_line : (k : Line)
-        → split p * sum_below (full_word p) x + split p * queued_on k p x z ≡ split p * base_on k p x z
+        → split p * sum_below (full_word p) x + split p * queued_mass_on k p x z ≡ split p * base_on k p x z
     on_line line.Zero = omega arith
     on_line line.Infinite = omega (arith, ap (λ c. split p * c) (all_words p x))
 
 -- so the dispatches to an atom, all units together, are its part of all that is answered
 pub dispatched_to_atom : (p : PlanParts) → IsAccepted p → (x : ℕ → ℕ) (z j : ℕ) → j < atoms p
-    → sum_below (units p) (λ n. dispatched p x z n j) ≡ calls_of p j * (all_service p * split p * base p x z)
+    → sum_below (units p) (λ n. dispatch_flow p x z n j) ≡ calls_of p j * (all_service p * split p * base p x z)
 dispatched_to_atom p a x z j l =
     sum-scaled (units p) (calls_of p j)
-    (λ n. all_service p * taken_mass p x n j + split p * service_of p n * queued p x z)
+    (λ n. all_service p * taken_mass p x n j + split p * service_of p n * queued_mass p x z)
     ∙ ap (λ c. calls_of p j * c)
     (omega (
       arith,
-      sum-add (units p) (λ n. all_service p * taken_mass p x n j) (λ n. split p * service_of p n * queued p x z),
+      sum-add (units p) (λ n. all_service p * taken_mass p x n j) (λ n. split p * service_of p n * queued_mass p x z),
       sum-scaled (units p) (all_service p) (λ n. taken_mass p x n j),
-      sum-same (units p) (λ n. split p * service_of p n * queued p x z)
-          (λ n. split p * queued p x z * service_of p n) (λ n h. omega arith),
-      sum-scaled (units p) (split p * queued p x z) (service_of p),
+      sum-same (units p) (λ n. split p * service_of p n * queued_mass p x z)
+          (λ n. split p * queued_mass p x z * service_of p n) (λ n h. omega arith),
+      sum-scaled (units p) (split p * queued_mass p x z) (service_of p),
       ap (λ c. all_service p * c) (taken_room p a x z j l),
     ))
 
 -- and so are all dispatches
 pub dispatched_all : (p : PlanParts) → IsAccepted p → (x : ℕ → ℕ) (z : ℕ)
-    → sum_below (units p) (dispatched_by p x z) ≡ all_calls p * all_service p * split p * base p x z
+    → sum_below (units p) (dispatch_flow_by p x z) ≡ all_calls p * all_service p * split p * base p x z
 dispatched_all p a x z =
-    sum-swap (units p) (atoms p) (λ n j. dispatched p x z n j)
-    ∙ sum-same (atoms p) (λ j. sum_below (units p) (λ n. dispatched p x z n j))
+    sum-swap (units p) (atoms p) (λ n j. dispatch_flow p x z n j)
+    ∙ sum-same (atoms p) (λ j. sum_below (units p) (λ n. dispatch_flow p x z n j))
     (λ j. all_service p * split p * base p x z * calls_of p j)
     (λ j l. omega (arith, dispatched_to_atom p a x z j l))
     ∙ omega (arith, sum-scaled (atoms p) (all_service p * split p * base p x z) (calls_of p))
 
 -- and those to a district
 pub dispatched_into : (p : PlanParts) → IsAccepted p → (x : ℕ → ℕ) (z m : ℕ)
-    → sum_below (units p) (λ n. dispatched_inside p x z n m)
+    → sum_below (units p) (λ n. dispatch_flow_inside p x z n m)
     ≡ district_calls p m * all_service p * split p * base p x z
 dispatched_into p a x z m =
-    sum-swap (units p) (atoms p) (λ n j. cond (is_inside p m j) (dispatched p x z n j) 0)
-    ∙ sum-same (atoms p) (λ j. sum_below (units p) (λ n. cond (is_inside p m j) (dispatched p x z n j) 0))
+    sum-swap (units p) (atoms p) (λ n j. cond (is_inside p m j) (dispatch_flow p x z n j) 0)
+    ∙ sum-same (atoms p) (λ j. sum_below (units p) (λ n. cond (is_inside p m j) (dispatch_flow p x z n j) 0))
     (λ j. all_service p * split p * base p x z * cond (is_inside p m j) (calls_of p j) 0)
     (λ j l. of_atom (is_inside p m j) j l)
     ∙ omega (
@@ -256,7 +256,7 @@ dispatched_into p a x z m =
     )
   where
     of_atom : (b : Bool) (j : ℕ) → j < atoms p
-        → sum_below (units p) (λ n. cond b (dispatched p x z n j) 0)
+        → sum_below (units p) (λ n. cond b (dispatch_flow p x z n j) 0)
         ≡ all_service p * split p * base p x z * cond b (calls_of p j) 0
     of_atom true j l = omega (arith, dispatched_to_atom p a x z j l)
     of_atom false j l = omega (arith, sum_none (units p) (λ n. 0) (λ n h. refl))

@@ -11,7 +11,7 @@ use Rattle.hyper_model.specs.Sums.{sum_below}
 use Rattle.hyper_model.specs.Plans.{units, atoms, service_of, calls_of, all_calls, all_service, is_inside, district_calls, split, IsAccepted}
 use Rattle.hyper_model.specs.Words.{words, is_busy, full_word, takes, portion}
 use Rattle.hyper_model.specs.Solutions.{mass_in}
-use Rattle.hyper_model.specs.Measures.{Ratio, mass, queued_on, base_on, taken_mass, dispatched, dispatched_inside, dispatched_outside, dispatched_by, mean_travel, travel_from_calls, travel_among_calls, travelled, travel_to, loss_on, delay_on, queue_on, wait_on, measure_of}
+use Rattle.hyper_model.specs.Measures.{Ratio, mass, queued_mass_on, base_on, taken_mass, dispatch_flow, dispatch_flow_inside, dispatch_flow_outside, dispatch_flow_by, mean_travel, travel_from_calls, travel_among_calls, travel_flow, travel_to, loss_on, delay_on, queue_on, wait_on, measure_of}
 use Rattle.hyper_model.specs.Laws.{IsSameRatio, HaveOneValue}
 use Rattle.hyper_model.proofs.Sums.{sum-scaled, sum-same, same_factor}
 use Rattle.hyper_model.proofs.PlanLaws.{words_positive, full_below, word_positive, words_proportional, tail_is_proportional}
@@ -57,7 +57,7 @@ module _ (p : PlanParts) (c d : ℕ) (x y : ℕ → ℕ) (z t : ℕ) (c_positive
   whole : AreAlike c d (mass p x z) (mass p y t)
   whole = alike_plus c d (sum_below (words p) x) (sum_below (words p) y) z t (alike_sum c d (words p) x y each) wait
 
-  waiting : (l : Line) → AreAlike c d (queued_on l p x z) (queued_on l p y t)
+  waiting : (l : Line) → AreAlike c d (queued_mass_on l p x z) (queued_mass_on l p y t)
   waiting line.Zero = omega arith
   waiting line.Infinite = alike_plus c d (x (full_word p)) (y (full_word p)) z t full wait
 
@@ -72,7 +72,7 @@ module _ (p : PlanParts) (c d : ℕ) (x y : ℕ → ℕ) (z t : ℕ) (c_positive
       (λ w h. alike_if c d (takes p j w n) (x w * portion p j w) (y w * portion p j w)
       (alike_by c d (portion p j w) (x w) (y w) (each w h)))
 
-  sent : (n j : ℕ) → AreAlike c d (dispatched p x z n j) (dispatched p y t n j)
+  sent : (n j : ℕ) → AreAlike c d (dispatch_flow p x z n j) (dispatch_flow p y t n j)
   sent n j =
       omega (
         arith,
@@ -80,22 +80,22 @@ module _ (p : PlanParts) (c d : ℕ) (x y : ℕ → ℕ) (z t : ℕ) (c_positive
         ap (λ k. calls_of p j * split p * service_of p n * k) (waiting p.line),
       )
 
-  sent_by : (n : ℕ) → AreAlike c d (dispatched_by p x z n) (dispatched_by p y t n)
-  sent_by n = alike_sum c d (atoms p) (dispatched p x z n) (dispatched p y t n) (λ j h. sent n j)
+  sent_by : (n : ℕ) → AreAlike c d (dispatch_flow_by p x z n) (dispatch_flow_by p y t n)
+  sent_by n = alike_sum c d (atoms p) (dispatch_flow p x z n) (dispatch_flow p y t n) (λ j h. sent n j)
 
-  sent_inside : (n m : ℕ) → AreAlike c d (dispatched_inside p x z n m) (dispatched_inside p y t n m)
+  sent_inside : (n m : ℕ) → AreAlike c d (dispatch_flow_inside p x z n m) (dispatch_flow_inside p y t n m)
   sent_inside n m =
-      alike_sum c d (atoms p) (λ j. cond (is_inside p m j) (dispatched p x z n j) 0)
-      (λ j. cond (is_inside p m j) (dispatched p y t n j) 0)
-      (λ j h. alike_if c d (is_inside p m j) (dispatched p x z n j) (dispatched p y t n j) (sent n j))
+      alike_sum c d (atoms p) (λ j. cond (is_inside p m j) (dispatch_flow p x z n j) 0)
+      (λ j. cond (is_inside p m j) (dispatch_flow p y t n j) 0)
+      (λ j h. alike_if c d (is_inside p m j) (dispatch_flow p x z n j) (dispatch_flow p y t n j) (sent n j))
 
-  sent_outside : (n m : ℕ) → AreAlike c d (dispatched_outside p x z n m) (dispatched_outside p y t n m)
+  sent_outside : (n m : ℕ) → AreAlike c d (dispatch_flow_outside p x z n m) (dispatch_flow_outside p y t n m)
   sent_outside n m =
-      alike_sum c d (atoms p) (λ j. cond (is_inside p m j) 0 (dispatched p x z n j))
-      (λ j. cond (is_inside p m j) 0 (dispatched p y t n j))
-      (λ j h. alike_else c d (is_inside p m j) (dispatched p x z n j) (dispatched p y t n j) (sent n j))
+      alike_sum c d (atoms p) (λ j. cond (is_inside p m j) 0 (dispatch_flow p x z n j))
+      (λ j. cond (is_inside p m j) 0 (dispatch_flow p y t n j))
+      (λ j h. alike_else c d (is_inside p m j) (dispatch_flow p x z n j) (dispatch_flow p y t n j) (sent n j))
 
-  way : (n : ℕ) → AreAlike c d (travelled p x n) (travelled p y n)
+  way : (n : ℕ) → AreAlike c d (travel_flow p x n) (travel_flow p y n)
   way n =
       alike_sum c d (atoms p) (λ j. calls_of p j * taken_mass p x n j * mean_travel p n j)
       (λ j. calls_of p j * taken_mass p y n j * mean_travel p n j)
@@ -156,25 +156,25 @@ module _ (p : PlanParts) (c d : ℕ) (x y : ℕ → ℕ) (z t : ℕ) (c_positive
   same_measure measure.Interdistrict =
       alike_ratio c d (measure_of p x z measure.Interdistrict) (measure_of p y t measure.Interdistrict)
       c_positive d_positive
-      (alike_sum c d (units p) (λ n. dispatched_outside p x z n n) (λ n. dispatched_outside p y t n n)
+      (alike_sum c d (units p) (λ n. dispatch_flow_outside p x z n n) (λ n. dispatch_flow_outside p y t n n)
       (λ n h. sent_outside n n))
-      (alike_sum c d (units p) (dispatched_by p x z) (dispatched_by p y t) (λ n h. sent_by n))
+      (alike_sum c d (units p) (dispatch_flow_by p x z) (dispatch_flow_by p y t) (λ n h. sent_by n))
   same_measure (measure.InterdistrictUnit n) =
       alike_ratio c d (measure_of p x z (measure.InterdistrictUnit n)) (measure_of p y t (measure.InterdistrictUnit n))
       c_positive d_positive (sent_outside n n) (sent_by n)
   same_measure (measure.InterdistrictDistrict n) =
       alike_ratio c d (measure_of p x z (measure.InterdistrictDistrict n))
       (measure_of p y t (measure.InterdistrictDistrict n)) c_positive d_positive
-      (alike_sum c d (units p) (λ m. cond (m == n) 0 (dispatched_inside p x z m n))
-      (λ m. cond (m == n) 0 (dispatched_inside p y t m n))
-      (λ m h. alike_else c d (m == n) (dispatched_inside p x z m n) (dispatched_inside p y t m n) (sent_inside m n)))
-      (alike_sum c d (units p) (λ m. dispatched_inside p x z m n) (λ m. dispatched_inside p y t m n)
+      (alike_sum c d (units p) (λ m. cond (m == n) 0 (dispatch_flow_inside p x z m n))
+      (λ m. cond (m == n) 0 (dispatch_flow_inside p y t m n))
+      (λ m h. alike_else c d (m == n) (dispatch_flow_inside p x z m n) (dispatch_flow_inside p y t m n) (sent_inside m n)))
+      (alike_sum c d (units p) (λ m. dispatch_flow_inside p x z m n) (λ m. dispatch_flow_inside p y t m n)
       (λ m h. sent_inside m n))
   same_measure measure.Travel =
       alike_ratio c d (measure_of p x z measure.Travel) (measure_of p y t measure.Travel) c_positive d_positive
       (omega (
         arith,
-        ap (λ k. all_calls p * k) (alike_sum c d (units p) (travelled p x) (travelled p y) (λ n h. way n)),
+        ap (λ k. all_calls p * k) (alike_sum c d (units p) (travel_flow p x) (travel_flow p y) (λ n h. way n)),
         ap (λ k. 1000 * split p * travel_among_calls p * k) (waiting p.line),
       ))
       (omega (arith, ap (λ k. 1000 * all_calls p * all_calls p * split p * k) (answered p.line)))

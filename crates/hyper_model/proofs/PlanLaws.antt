@@ -8,7 +8,7 @@ use Rattle.hyper_model.specs.declared.kinds.Line.TheVariants as line
 use Rattle.hyper_model.specs.declared.parts.PlanParts.{PlanParts}
 use Rattle.hyper_model.specs.Sums.{sum_below}
 use Rattle.hyper_model.specs.Plans.{units, all_calls, all_service, IsStable, IsAccepted}
-use Rattle.hyper_model.specs.Words.{words, full_word, turned}
+use Rattle.hyper_model.specs.Words.{words, full_word, turned_word}
 use Rattle.hyper_model.specs.Solutions.{mass_in, SolvesWords, IsTail, IsSolution, HasSolution}
 use Rattle.hyper_model.specs.Tables.{SolvesTable, word_table}
 use Rattle.hyper_model.specs.Laws.{AreWordsPositive, IsTailPositive, AreWordsProportional, IsTailProportional}
@@ -116,8 +116,8 @@ module _ (p : PlanParts) (a : IsAccepted p) (x : ℕ → ℕ) (s : SolvesTable (
         let free = free_exists (units p) w l ne in
         let sent = up_some p a w free.0 free.1 free.2 in
         let next = turned_lt (units p) w sent.0 l sent.1 in
-        full_from fuel (turned w sent.0) next (omega (arith, turned_up w sent.0 sent.2, f))
-        (carried (words p) (word_table p) x s w (turned w sent.0) l next h
+        full_from fuel (turned_word w sent.0) next (omega (arith, turned_up w sent.0 sent.2, f))
+        (carried (words p) (word_table p) x s w (turned_word w sent.0) l next h
         (omega (arith, turn_rate_le p w sent.0 sent.1, rate_free p w sent.0 sent.2, sent.3)))
   ]
 
@@ -129,10 +129,10 @@ module _ (p : PlanParts) (a : IsAccepted p) (x : ℕ → ℕ) (s : SolvesTable (
     | inr ne ↦
         let free = free_exists (units p) w l ne in
         let above = turned_lt (units p) w free.0 l free.1 in
-        let ends = service_positive p a (turned w free.0) free.0 free.1 (busy_turned w free.0 ∙ ap not free.2) in
-        carried (words p) (word_table p) x s (turned w free.0) w above l
-        (each_from fuel (turned w free.0) above (omega (arith, turned_up w free.0 free.2, f)) h)
-        (omega (arith, ends, ap (λ v. word_table p (turned w free.0) v) (turned_twice w free.0)))
+        let ends = service_positive p a (turned_word w free.0) free.0 free.1 (busy_turned w free.0 ∙ ap not free.2) in
+        carried (words p) (word_table p) x s (turned_word w free.0) w above l
+        (each_from fuel (turned_word w free.0) above (omega (arith, turned_up w free.0 free.2, f)) h)
+        (omega (arith, ends, ap (λ v. word_table p (turned_word w free.0) v) (turned_twice w free.0)))
   ]
 
   pub each_positive : (w : ℕ) → w < words p → 0 < x w

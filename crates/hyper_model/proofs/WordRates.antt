@@ -5,8 +5,8 @@ use Rattle.std.proofs.Math.Nat.{mul-le-mul}
 use Rattle.hyper_model.specs.declared.parts.PlanParts.{PlanParts}
 use Rattle.hyper_model.specs.Sums.{sum_below}
 use Rattle.hyper_model.specs.Plans.{units, service_of, all_calls, all_service, split, IsAccepted}
-use Rattle.hyper_model.specs.Words.{words, is_busy, full_word, turned}
-use Rattle.hyper_model.specs.Rates.{up, down, leaving}
+use Rattle.hyper_model.specs.Words.{words, is_busy, full_word, turned_word}
+use Rattle.hyper_model.specs.Rates.{up, down, leaving_rate}
 use Rattle.hyper_model.specs.Tables.{RateTable, Descends, between_states, turn_rate, word_table}
 use Rattle.hyper_model.proofs.Sums.{same_test, sum-same, sum-scaled, sum-at, sum-le, sum_none}
 use Rattle.hyper_model.proofs.Bits.{busy_turned, busy_turned_other, free_exists}
@@ -18,41 +18,41 @@ no_fixed_point true e = true≢false e
 no_fixed_point false e = true≢false (sym e)
 
 -- different units lead to different words
-pub turned_apart : (v n i : ℕ) → n ≢ i → turned v n ≢ turned v i
+pub turned_apart : (v n i : ℕ) → n ≢ i → turned_word v n ≢ turned_word v i
 turned_apart v n i ne e =
     no_fixed_point (is_busy v n)
     (sym (busy_turned_other v i n ne) ∙ sym (ap (λ w. is_busy w n) e) ∙ busy_turned v n)
 
 -- the word itself is none of them
-pub turned_moves : (v n : ℕ) → v ≢ turned v n
+pub turned_moves : (v n : ℕ) → v ≢ turned_word v n
 turned_moves v n e = no_fixed_point (is_busy v n) (ap (λ w. is_busy w n) e ∙ busy_turned v n)
 
 -- the rate to the word in which unit n alone has changed
-pub table_at_turned : (p : PlanParts) (v n : ℕ) → n < units p → word_table p v (turned v n) ≡ turn_rate p v n
+pub table_at_turned : (p : PlanParts) (v n : ℕ) → n < units p → word_table p v (turned_word v n) ≡ turn_rate p v n
 table_at_turned p v n l =
-    sum-same (units p) (λ i. cond (eqb (turned v n) (turned v i)) (turn_rate p v i) 0)
+    sum-same (units p) (λ i. cond (eqb (turned_word v n) (turned_word v i)) (turn_rate p v i) 0)
     (λ i. cond (eqb i n) (turn_rate p v i) 0)
-    (λ i k. ap (λ c. cond c (turn_rate p v i) 0) (same_test (turned v n) (turned v i) i n (unit_of i) (word_of i)))
+    (λ i k. ap (λ c. cond c (turn_rate p v i) 0) (same_test (turned_word v n) (turned_word v i) i n (unit_of i) (word_of i)))
     ∙ sum-at (units p) (turn_rate p v) n l
   where
-    unit_of : (i : ℕ) → turned v n ≡ turned v i → i ≡ n
+    unit_of : (i : ℕ) → turned_word v n ≡ turned_word v i → i ≡ n
     unit_of i e = elim (cases_eq i n)
         [ inl same ↦ same | inr ne ↦ absurd (turned_apart v n i (λ q. ne (sym q)) e) ]
 
-    word_of : (i : ℕ) → i ≡ n → turned v n ≡ turned v i
-    word_of i e = ap (turned v) (sym e)
+    word_of : (i : ℕ) → i ≡ n → turned_word v n ≡ turned_word v i
+    word_of i e = ap (turned_word v) (sym e)
 
 -- there is none to a word in which no unit or more than one has changed
-pub table_elsewhere : (p : PlanParts) (v w : ℕ) → ((n : ℕ) → n < units p → w ≢ turned v n) → word_table p v w ≡ 0
+pub table_elsewhere : (p : PlanParts) (v w : ℕ) → ((n : ℕ) → n < units p → w ≢ turned_word v n) → word_table p v w ≡ 0
 table_elsewhere p v w h =
-    sum_none (units p) (λ n. cond (eqb w (turned v n)) (turn_rate p v n) 0)
-    (λ n l. ap (λ c. cond c (turn_rate p v n) 0) (ne_eqb w (turned v n) (h n l)))
+    sum_none (units p) (λ n. cond (eqb w (turned_word v n)) (turn_rate p v n) 0)
+    (λ n l. ap (λ c. cond c (turn_rate p v n) 0) (ne_eqb w (turned_word v n) (h n l)))
 
 pub table_itself : (p : PlanParts) (v : ℕ) → word_table p v v ≡ 0
 table_itself p v = table_elsewhere p v v (λ n l. turned_moves v n)
 
 -- the rate out of a word is at most that of all calls and all services
-pub leaving_le : (p : PlanParts) (w : ℕ) → leaving p w ≤ split p * (all_calls p + all_service p)
+pub leaving_le : (p : PlanParts) (w : ℕ) → leaving_rate p w ≤ split p * (all_calls p + all_service p)
 leaving_le p w =
     let services = sum-le (units p) (down p w) (λ n. split p * service_of p n)
     (λ n l. at_most (is_busy w n) (split p * service_of p n)) in
@@ -67,7 +67,7 @@ leaving_le p w =
     at_most false k = omega arith
 
 -- which is at most 27,720 times two millions
-pub leaving_small : (p : PlanParts) → IsAccepted p → (w : ℕ) → leaving p w ≤ 55440000000
+pub leaving_small : (p : PlanParts) → IsAccepted p → (w : ℕ) → leaving_rate p w ≤ 55440000000
 leaving_small p a w =
     omega (
       arith,
@@ -78,7 +78,7 @@ leaving_small p a w =
 
 -- and it is the sum of the rates to the other words
 pub leaving_row : (p : PlanParts) → IsAccepted p → (w : ℕ) → w < words p
-    → sum_below (words p) (word_table p w) ≡ leaving p w
+    → sum_below (words p) (word_table p w) ≡ leaving_rate p w
 leaving_row p a w l = row_is p w l ∙ sym (leaving_is p a w l)
 
 -- a table descends with rates from states to themselves or without them

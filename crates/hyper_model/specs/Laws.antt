@@ -6,7 +6,7 @@ use Rattle.hyper_model.specs.declared.parts.PlanParts.{PlanParts}
 use Rattle.hyper_model.specs.Sums.{sum_below}
 use Rattle.hyper_model.specs.Plans.{units, service_of, all_calls, all_service, split}
 use Rattle.hyper_model.specs.Words.{words, is_busy, full_word}
-use Rattle.hyper_model.specs.Rates.{leaving, coming, IsBalancedWord}
+use Rattle.hyper_model.specs.Rates.{leaving_rate, coming_flow, IsBalancedWord}
 use Rattle.hyper_model.specs.Solutions.{mass_in, IsSolution}
 use Rattle.hyper_model.specs.Measures.{Ratio, measure_of}
 
@@ -47,8 +47,8 @@ pub record SolvesQueue (p : PlanParts) (room : ℕ) (x q : ℕ → ℕ) : Type 0
   pub nobody_waits : q 0 ≡ x (full_word p)
   pub not_full : (w : ℕ) → w < words p → w ≢ full_word p → IsBalancedWord p x w
   pub full :
-      x (full_word p) * leaving p (full_word p) + split p * all_calls p * x (full_word p)
-      ≡ coming p x (full_word p) + split p * all_service p * q 1
+      x (full_word p) * leaving_rate p (full_word p) + split p * all_calls p * x (full_word p)
+      ≡ coming_flow p x (full_word p) + split p * all_service p * q 1
   pub between : (k : ℕ) → k + 1 < room
       → q (k + 1) * (all_calls p + all_service p) ≡ all_calls p * q k + all_service p * q (k + 2)
   pub last : (k : ℕ) → k + 1 ≡ room → q (k + 1) * all_service p ≡ all_calls p * q k

@@ -23,12 +23,12 @@ abbrev pub mass : PlanParts → (ℕ → ℕ) → ℕ → ℕ
 mass p x z = sum_below (words p) x + z
 
 -- the mass of the states in which a call that comes has to wait
-abbrev pub queued_on : Line → PlanParts → (ℕ → ℕ) → ℕ → ℕ
-queued_on line.Zero p x z = 0
-queued_on line.Infinite p x z = x (full_word p) + z
+abbrev pub queued_mass_on : Line → PlanParts → (ℕ → ℕ) → ℕ → ℕ
+queued_mass_on line.Zero p x z = 0
+queued_mass_on line.Infinite p x z = x (full_word p) + z
 
-abbrev pub queued : PlanParts → (ℕ → ℕ) → ℕ → ℕ
-queued p x z = queued_on p.line p x z
+abbrev pub queued_mass : PlanParts → (ℕ → ℕ) → ℕ → ℕ
+queued_mass p x z = queued_mass_on p.line p x z
 
 -- the mass of the states in which a call that comes is answered, at once or later: the full word is the
 -- last of the words, and its calls are lost where nobody can wait
@@ -46,18 +46,18 @@ taken_mass p x n j = sum_below (words p) (λ w. if takes p j w n then x w * port
 
 -- the flow of calls of atom j that unit n answers, times all service and times `split p`: those answered at
 -- once, and those out of the queue, of which each unit takes the part that its service is of all service
-abbrev pub dispatched : PlanParts → (ℕ → ℕ) → ℕ → ℕ → ℕ → ℕ
-dispatched p x z n j = calls_of p j * (all_service p * taken_mass p x n j + split p * service_of p n * queued p x z)
+abbrev pub dispatch_flow : PlanParts → (ℕ → ℕ) → ℕ → ℕ → ℕ → ℕ
+dispatch_flow p x z n j = calls_of p j * (all_service p * taken_mass p x n j + split p * service_of p n * queued_mass p x z)
 
 -- such flows of unit n to the atoms of unit m's district, and to all others
-abbrev pub dispatched_inside : PlanParts → (ℕ → ℕ) → ℕ → ℕ → ℕ → ℕ
-dispatched_inside p x z n m = sum_below (atoms p) (λ j. if is_inside p m j then dispatched p x z n j else 0)
+abbrev pub dispatch_flow_inside : PlanParts → (ℕ → ℕ) → ℕ → ℕ → ℕ → ℕ
+dispatch_flow_inside p x z n m = sum_below (atoms p) (λ j. if is_inside p m j then dispatch_flow p x z n j else 0)
 
-abbrev pub dispatched_outside : PlanParts → (ℕ → ℕ) → ℕ → ℕ → ℕ → ℕ
-dispatched_outside p x z n m = sum_below (atoms p) (λ j. if is_inside p m j then 0 else dispatched p x z n j)
+abbrev pub dispatch_flow_outside : PlanParts → (ℕ → ℕ) → ℕ → ℕ → ℕ → ℕ
+dispatch_flow_outside p x z n m = sum_below (atoms p) (λ j. if is_inside p m j then 0 else dispatch_flow p x z n j)
 
-abbrev pub dispatched_by : PlanParts → (ℕ → ℕ) → ℕ → ℕ → ℕ
-dispatched_by p x z n = sum_below (atoms p) (dispatched p x z n)
+abbrev pub dispatch_flow_by : PlanParts → (ℕ → ℕ) → ℕ → ℕ → ℕ
+dispatch_flow_by p x z n = sum_below (atoms p) (dispatch_flow p x z n)
 
 -- the mean travel time of unit n, free, to atom j, in thousandths of a second
 abbrev pub mean_travel : PlanParts → ℕ → ℕ → ℕ
@@ -74,14 +74,14 @@ abbrev pub travel_among_calls : PlanParts → ℕ
 travel_among_calls p = sum_below (atoms p) (λ j. calls_of p j * travel_from_calls p j)
 
 -- the flow of calls that unit n answers at once, each times the unit's mean travel time to its atom
-abbrev pub travelled : PlanParts → (ℕ → ℕ) → ℕ → ℕ
-travelled p x n = sum_below (atoms p) (λ j. calls_of p j * taken_mass p x n j * mean_travel p n j)
+abbrev pub travel_flow : PlanParts → (ℕ → ℕ) → ℕ → ℕ
+travel_flow p x n = sum_below (atoms p) (λ j. calls_of p j * taken_mass p x n j * mean_travel p n j)
 
 -- the numerator of the mean travel time to atom j, over a denominator that is the same for each atom
 abbrev pub travel_to : PlanParts → (ℕ → ℕ) → ℕ → ℕ → ℕ
 travel_to p x z j =
     all_calls p * sum_below (units p) (λ n. taken_mass p x n j * mean_travel p n j)
-    + 1000 * split p * queued p x z * travel_from_calls p j
+    + 1000 * split p * queued_mass p x z * travel_from_calls p j
 
 -- 0, as a ratio: a measure that the plan's line does not have
 abbrev pub zero_ratio : Ratio
@@ -115,30 +115,30 @@ measure_of p x z measure.Wait = wait_on p.line p x z
 measure_of p x z (measure.Workload n) =
     record { numerator = sum_below (words p) (λ w. if is_busy w n then x w else 0) + z; denominator = mass p x z }
 measure_of p x z (measure.Dispatch n j) = record {
-  numerator = dispatched p x z n j;
+  numerator = dispatch_flow p x z n j;
   denominator = all_calls p * all_service p * split p * base p x z;
 }
 measure_of p x z measure.Interdistrict = record {
-  numerator = sum_below (units p) (λ n. dispatched_outside p x z n n);
-  denominator = sum_below (units p) (dispatched_by p x z);
+  numerator = sum_below (units p) (λ n. dispatch_flow_outside p x z n n);
+  denominator = sum_below (units p) (dispatch_flow_by p x z);
 }
 measure_of p x z (measure.InterdistrictUnit n) =
-    record { numerator = dispatched_outside p x z n n; denominator = dispatched_by p x z n }
+    record { numerator = dispatch_flow_outside p x z n n; denominator = dispatch_flow_by p x z n }
 measure_of p x z (measure.InterdistrictDistrict n) = record {
-  numerator = sum_below (units p) (λ m. if m == n then 0 else dispatched_inside p x z m n);
-  denominator = sum_below (units p) (λ m. dispatched_inside p x z m n);
+  numerator = sum_below (units p) (λ m. if m == n then 0 else dispatch_flow_inside p x z m n);
+  denominator = sum_below (units p) (λ m. dispatch_flow_inside p x z m n);
 }
 measure_of p x z measure.Travel = record {
-  numerator = all_calls p * sum_below (units p) (travelled p x)
-      + 1000 * split p * queued p x z * travel_among_calls p;
+  numerator = all_calls p * sum_below (units p) (travel_flow p x)
+      + 1000 * split p * queued_mass p x z * travel_among_calls p;
   denominator = 1000 * all_calls p * all_calls p * split p * base p x z;
 }
 measure_of p x z (measure.TravelAtom j) =
     record { numerator = travel_to p x z j; denominator = 1000 * all_calls p * split p * base p x z }
 measure_of p x z (measure.TravelUnit n) = record {
-  numerator = all_calls p * all_service p * travelled p x n
-      + 1000 * split p * service_of p n * queued p x z * travel_among_calls p;
-  denominator = 1000 * all_calls p * dispatched_by p x z n;
+  numerator = all_calls p * all_service p * travel_flow p x n
+      + 1000 * split p * service_of p n * queued_mass p x z * travel_among_calls p;
+  denominator = 1000 * all_calls p * dispatch_flow_by p x z n;
 }
 measure_of p x z (measure.TravelDistrict n) = record {
   numerator = sum_below (atoms p) (λ j. if is_inside p n j then calls_of p j * travel_to p x z j else 0);

@@ -4,7 +4,7 @@ use Rattle.std.specs.Prelude.{◌≡◌, ℕ, ◌*◌, ◌<◌, ◌==◌, if◌t
 use Rattle.hyper_model.specs.declared.parts.PlanParts.{PlanParts}
 use Rattle.hyper_model.specs.Sums.{sum_below}
 use Rattle.hyper_model.specs.Plans.{units, service_of, split}
-use Rattle.hyper_model.specs.Words.{is_busy, turned}
+use Rattle.hyper_model.specs.Words.{is_busy, turned_word}
 use Rattle.hyper_model.specs.Rates.{up}
 use Rattle.hyper_model.specs.Solutions.{mass_in}
 
@@ -54,4 +54,4 @@ turn_rate p word n = if is_busy word n then split p * service_of p n else up p w
 
 -- the rates of a plan between words
 abbrev pub word_table : PlanParts → RateTable
-word_table p v w = sum_below (units p) (λ n. if w == turned v n then turn_rate p v n else 0)
+word_table p v w = sum_below (units p) (λ n. if w == turned_word v n then turn_rate p v n else 0)

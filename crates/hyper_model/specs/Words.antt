@@ -21,8 +21,8 @@ abbrev pub full_word : PlanParts → ℕ
 full_word p = 2 ^ units p - 1
 
 -- the word in which unit n alone has changed, from free to busy or from busy to free
-abbrev pub turned : ℕ → ℕ → ℕ
-turned word n = bit_xor word (2 ^ n)
+abbrev pub turned_word : ℕ → ℕ → ℕ
+turned_word word n = bit_xor word (2 ^ n)
 
 -- the first unit of a list that is free
 abbrev pub first_free_of : List ℕ → ℕ → Option ℕ

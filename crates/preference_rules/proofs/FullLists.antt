@@ -48,14 +48,14 @@ places_sum n [] h = sum_none n (places_in []) (λ i lt. refl)
 places_sum n (x ∷ xs) h =
     let lt : x < n = All-head (λ unit. unit < n) x xs h in
     sum-same n (places_in (x ∷ xs)) (λ u. cond (eqb u x) 1 0 + places_in xs u)
-    (λ u l. sum_by-cons (λ m. cond (m == u) 1 0) x xs ∙ ap (λ k. k + places_in xs u) (turned x u))
+    (λ u l. sum_by-cons (λ m. cond (m == u) 1 0) x xs ∙ ap (λ k. k + places_in xs u) (turned_word x u))
     ∙ sum-add n (λ u. cond (eqb u x) 1 0) (places_in xs)
     ∙ (let one : sum_below n (λ u. cond (eqb u x) 1 0) ≡ 1 = sum-at n (λ u. 1) x lt in
     let rest = places_sum n xs (All-tail (λ unit. unit < n) x xs h) in
     omega (arith, one, rest))
   where
-    turned : (x u : ℕ) → ◌≡◌ {A = ℕ} (cond (x == u) 1 0) (cond (eqb u x) 1 0)
-    turned x u = grind (arith, nat_tests)
+    turned_word : (x u : ℕ) → ◌≡◌ {A = ℕ} (cond (x == u) 1 0) (cond (eqb u x) 1 0)
+    turned_word x u = grind (arith, nat_tests)
 
 pub full-length : (n : ℕ) (list : List ℕ) → IsFullList n list → length list ≡ n
 full-length n list full =

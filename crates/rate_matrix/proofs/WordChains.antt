@@ -4,7 +4,7 @@ use Rattle.std.proofs.lemmas.Bool.{cases_lt}
 use Rattle.std.proofs.lemmas.List.{get_or-map, length-map}
 use Rattle.hyper_model.specs.declared.parts.PlanParts.{PlanParts}
 use Rattle.hyper_model.specs.Plans.{units, IsAccepted}
-use Rattle.hyper_model.specs.Words.{words, is_busy, turned}
+use Rattle.hyper_model.specs.Words.{words, is_busy, turned_word}
 use Rattle.hyper_model.specs.Laws.{level}
 use Rattle.hyper_model.specs.Solutions.{mass_in, SolvesWords}
 use Rattle.hyper_model.specs.Tables.{RateTable, Descends, IsTableSolution, between_states, word_table}
@@ -44,14 +44,14 @@ module _ (p : PlanParts) (order : WordOrder) (accepted : IsAccepted p) (h : IsIn
       let v = word_at order m in
       let below : word_at order m < 2 ^ units p = h.within m l in
       let n = busy_exists (units p) (word_at order m) below (first_none m l pos) in
-      let next : turned (word_at order m) n.0 < 2 ^ units p = turned_lt (units p) (word_at order m) n.0 below n.1 in
-      let to = rank_of (units p) (turned (word_at order m) n.0) in
-      let to_word : word_at order (rank_of (units p) (turned (word_at order m) n.0)) ≡ turned (word_at order m) n.0 = inverse.to_back (turned (word_at order m) n.0) next in (
-        rank_of (units p) (turned (word_at order m) n.0),
-        elim (cases_lt (rank_of (units p) (turned (word_at order m) n.0)) m) [
+      let next : turned_word (word_at order m) n.0 < 2 ^ units p = turned_lt (units p) (word_at order m) n.0 below n.1 in
+      let to = rank_of (units p) (turned_word (word_at order m) n.0) in
+      let to_word : word_at order (rank_of (units p) (turned_word (word_at order m) n.0)) ≡ turned_word (word_at order m) n.0 = inverse.to_back (turned_word (word_at order m) n.0) next in (
+        rank_of (units p) (turned_word (word_at order m) n.0),
+        elim (cases_lt (rank_of (units p) (turned_word (word_at order m) n.0)) m) [
           | inl k ↦ k
           | inr k ↦
-              let rises = levels_rise (units p) order.words h m (rank_of (units p) (turned (word_at order m) n.0)) k (inverse.back_below (turned (word_at order m) n.0) next) in
+              let rises = levels_rise (units p) order.words h m (rank_of (units p) (turned_word (word_at order m) n.0)) k (inverse.back_below (turned_word (word_at order m) n.0) next) in
               absurd (omega (arith, rises, ap (level (units p)) to_word, level_down (units p) (word_at order m) n.0 n.1 n.2))
         ],
         subst (λ w. 0 < word_table p (word_at order m) w) (sym to_word) (service_positive p accepted (word_at order m) n.0 n.1 n.2),

@@ -9,7 +9,7 @@ use Rattle.hyper_model.specs.declared.parts.PlanParts.{PlanParts}
 use Rattle.hyper_model.specs.Sums.{sum_below}
 use Rattle.hyper_model.specs.Plans.{units, atoms, service_of, calls_of, all_calls, all_service, is_inside, district_calls, split}
 use Rattle.hyper_model.specs.Solutions.{mass_in}
-use Rattle.hyper_model.specs.Measures.{queued, base, taken_mass, dispatched_by, mean_travel, travel_from_calls, travel_to, measure_of, IsContained}
+use Rattle.hyper_model.specs.Measures.{queued_mass, base, taken_mass, dispatch_flow_by, mean_travel, travel_from_calls, travel_to, measure_of, IsContained}
 use Rattle.hyper_model.proofs.Sums.{sum-same, sum-scaled, cond_scaled}
 use Rattle.busy_words.specs.Algebra.{total_ends, where_ends}
 use Rattle.busy_words.proofs.Algebra.{encloses_total, encloses_where}
@@ -89,11 +89,11 @@ module _ (p : PlanParts) (xs : List ℕ) (z : ℕ) (parts : PartList) (h : HasPa
   mean_holds : (district : Option ℕ) (calls : ℕ) → calls ≡ calls_among p district
       → Encloses (mean_ends p parts district calls)
       (all_calls p * sum_below (units p) (trip_mass p (mass_in xs) district)
-      + 1000 * split p * queued p (mass_in xs) z * travel_to_calls p district)
+      + 1000 * split p * queued_mass p (mass_in xs) z * travel_to_calls p district)
       (all_calls p * calls * split p * base p (mass_in xs) z)
   mean_holds district calls same =
       mean_is (all_trip_ends p parts district) (waiting_on p.line parts.full) (late_ends p district) (all_calls p) calls
-      (split p) (base p (mass_in xs) z) (queued p (mass_in xs) z) (travel_to_calls p district)
+      (split p) (base p (mass_in xs) z) (queued_mass p (mass_in xs) z) (travel_to_calls p district)
       (sum_below (units p) (trip_mass p (mass_in xs) district)) (longest_mean p) (all_trips_hold district)
       h.waiting (late_holds district)
       (rw same (district_fits p h.accepted (mass_in xs) z district))
@@ -103,7 +103,7 @@ module _ (p : PlanParts) (xs : List ℕ) (z : ℕ) (parts : PartList) (h : HasPa
     refl,
     contains_time (mean_ends p parts None (all_calls p))
         (all_calls p * sum_below (units p) (trip_mass p (mass_in xs) None)
-        + 1000 * split p * queued p (mass_in xs) z * travel_to_calls p None)
+        + 1000 * split p * queued_mass p (mass_in xs) z * travel_to_calls p None)
         (all_calls p * all_calls p * split p * base p (mass_in xs) z) (measure_of p (mass_in xs) z measure.Travel) refl
         (region_grouped (all_calls p) (split p) (base p (mass_in xs) z)) (mean_holds None (all_calls p) refl),
   )
@@ -125,7 +125,7 @@ module _ (p : PlanParts) (xs : List ℕ) (z : ℕ) (parts : PartList) (h : HasPa
         (all_calls p * split p * base p (mass_in xs) z) (measure_of p (mass_in xs) z (measure.TravelAtom j)) refl
         (atom_grouped (all_calls p) (split p) (base p (mass_in xs) z))
         (atom_is (trips_to_ends p parts j) (waiting_on p.line parts.full) (all_calls p) (split p) (base p (mass_in xs) z)
-        (queued p (mass_in xs) z) (travel_from_calls p j) (trips_to_mass p (mass_in xs) j) (longest_mean p)
+        (queued_mass p (mass_in xs) z) (travel_from_calls p j) (trips_to_mass p (mass_in xs) j) (longest_mean p)
         (trips_to_hold j i) h.waiting (atom_fits p h.accepted (mass_in xs) z j i)),
   )
 
@@ -144,14 +144,14 @@ module _ (p : PlanParts) (xs : List ℕ) (z : ℕ) (parts : PartList) (h : HasPa
     refl,
     contains_time (unit_ends p parts n)
         (all_calls p * all_service p * trip_mass p (mass_in xs) None n
-        + 1000 * split p * service_of p n * queued p (mass_in xs) z * travel_to_calls p None)
+        + 1000 * split p * service_of p n * queued_mass p (mass_in xs) z * travel_to_calls p None)
         (all_calls p * (all_service p * taken_calls p (mass_in xs) n
-        + split p * service_of p n * queued p (mass_in xs) z * all_calls p))
+        + split p * service_of p n * queued_mass p (mass_in xs) z * all_calls p))
         (measure_of p (mass_in xs) z (measure.TravelUnit n)) refl
         (ap (λ v. 1000 * (all_calls p * v)) (sym (dispatched_made p h.accepted (mass_in xs) z n))
-        ∙ unit_grouped (all_calls p) (dispatched_by p (mass_in xs) z n))
+        ∙ unit_grouped (all_calls p) (dispatch_flow_by p (mass_in xs) z n))
         (unit_is (trip_ends p parts None n) (taken_ends p parts n) (help_of parts n) (late_ends p None) (all_calls p)
-        (all_service p) (split p) (service_of p n) (queued p (mass_in xs) z) (travel_to_calls p None)
+        (all_service p) (split p) (service_of p n) (queued_mass p (mass_in xs) z) (travel_to_calls p None)
         (trip_mass p (mass_in xs) None n) (taken_calls p (mass_in xs) n) (base p (mass_in xs) z)
         (longest_mean p) (trips_hold None n l) (taken_holds n l) (h.help n l) (late_holds None)
         (unit_fits p h.accepted (mass_in xs) z n l)),
@@ -163,7 +163,7 @@ module _ (p : PlanParts) (xs : List ℕ) (z : ℕ) (parts : PartList) (h : HasPa
       (mean_ends p parts (Some n) (district_calls p n)) refl
       (contains_time (mean_ends p parts (Some n) (district_calls p n))
       (all_calls p * sum_below (units p) (trip_mass p (mass_in xs) (Some n))
-      + 1000 * split p * queued p (mass_in xs) z * travel_to_calls p (Some n))
+      + 1000 * split p * queued_mass p (mass_in xs) z * travel_to_calls p (Some n))
       (all_calls p * district_calls p n * split p * base p (mass_in xs) z)
       (measure_of p (mass_in xs) z (measure.TravelDistrict n)) (sym (travel_made p h.accepted (mass_in xs) z (Some n)))
       (district_grouped (all_calls p) (district_calls p n) (split p) (base p (mass_in xs) z))

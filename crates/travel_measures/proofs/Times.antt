@@ -5,7 +5,7 @@ use Rattle.std.proofs.Math.Nat.{mul-le-mul_left, mul-le-mul_right}
 use Rattle.hyper_model.specs.declared.parts.PlanParts.{PlanParts}
 use Rattle.hyper_model.specs.Sums.{sum_below}
 use Rattle.hyper_model.specs.Plans.{units, atoms, service_of, calls_of, all_calls, all_service, split, IsAccepted}
-use Rattle.hyper_model.specs.Measures.{queued, base, taken_mass, dispatched, dispatched_by, mean_travel, travel_from_calls, travel_to}
+use Rattle.hyper_model.specs.Measures.{queued_mass, base, taken_mass, dispatch_flow, dispatch_flow_by, mean_travel, travel_from_calls, travel_to}
 use Rattle.hyper_model.proofs.Sums.{sum-same, sum-add, sum-scaled, sum-swap, sum-le, sum_none}
 use Rattle.hyper_model.proofs.Masses.{taken_room}
 use Rattle.travel_measures.specs.TravelEnds.{is_among, travel_to_calls, longest_mean}
@@ -115,15 +115,15 @@ module _ (p : PlanParts) (a : IsAccepted p) (x : ℕ → ℕ) (z : ℕ) where
   -- what is travelled to all atoms of a district, or of the region, is made of what is travelled to each
   pub travel_made : (district : Option ℕ)
       → sum_below (atoms p) (λ j. cond (is_among p district j) (calls_of p j * travel_to p x z j) 0)
-      ≡ all_calls p * sum_below (units p) (trip_mass p x district) + 1000 * split p * queued p x z * travel_to_calls p district
+      ≡ all_calls p * sum_below (units p) (trip_mass p x district) + 1000 * split p * queued_mass p x z * travel_to_calls p district
   travel_made district =
       choices_linear (atoms p) (is_among p district) (calls_of p) (trips_to_mass p x) (travel_from_calls p) (all_calls p)
-      (1000 * split p * queued p x z)
-      ∙ ap (λ t. all_calls p * t + 1000 * split p * queued p x z * travel_to_calls p district) (sym (trips_swapped district))
+      (1000 * split p * queued_mass p x z)
+      ∙ ap (λ t. all_calls p * t + 1000 * split p * queued_mass p x z * travel_to_calls p district) (sym (trips_swapped district))
 
   pub atom_fits : (j : ℕ) → j < atoms p → travel_to p x z j ≤ longest_mean p * (all_calls p * split p * base p x z)
   atom_fits j l =
-      room_fits (all_calls p) (trips_to_mass p x j) (split p) (queued p x z) (travel_from_calls p j)
+      room_fits (all_calls p) (trips_to_mass p x j) (split p) (queued_mass p x z) (travel_from_calls p j)
       (sum_below (units p) (λ n. taken_mass p x n j)) (base p x z) (longest_mean p)
       (times_le (units p) (λ n. taken_mass p x n j) (λ n. mean_travel p n j) (longest_mean p) (λ n h. mean_fits p a n j h l))
       (from_calls_fits p j l) (taken_room p a x z j l)
@@ -132,7 +132,7 @@ module _ (p : PlanParts) (a : IsAccepted p) (x : ℕ → ℕ) (z : ℕ) where
   mean_grouped cap c g b m = omega arith
 
   pub district_fits : (district : Option ℕ)
-      → all_calls p * sum_below (units p) (trip_mass p x district) + 1000 * split p * queued p x z * travel_to_calls p district
+      → all_calls p * sum_below (units p) (trip_mass p x district) + 1000 * split p * queued_mass p x z * travel_to_calls p district
       ≤ longest_mean p * (all_calls p * calls_among p district * split p * base p x z)
   district_fits district =
       omega (
@@ -156,10 +156,10 @@ module _ (p : PlanParts) (a : IsAccepted p) (x : ℕ → ℕ) (z : ℕ) where
 
   pub unit_fits : (n : ℕ) → n < units p
       → all_calls p * all_service p * trip_mass p x None n
-      + 1000 * split p * service_of p n * queued p x z * travel_to_calls p None
-      ≤ longest_mean p * (all_calls p * (all_service p * taken_calls p x n + split p * service_of p n * queued p x z * all_calls p))
+      + 1000 * split p * service_of p n * queued_mass p x z * travel_to_calls p None
+      ≤ longest_mean p * (all_calls p * (all_service p * taken_calls p x n + split p * service_of p n * queued_mass p x z * all_calls p))
   unit_fits n l =
-      unit_fits_at (all_calls p) (all_service p) (trip_mass p x None n) (split p) (service_of p n) (queued p x z)
+      unit_fits_at (all_calls p) (all_service p) (trip_mass p x None n) (split p) (service_of p n) (queued_mass p x z)
       (travel_to_calls p None) (taken_calls p x n) (longest_mean p)
       (times_le (atoms p) (λ j. calls_of p j * taken_mass p x n j) (λ j. mean_travel p n j) (longest_mean p)
       (λ j h. mean_fits p a n j l h))
@@ -170,13 +170,13 @@ module _ (p : PlanParts) (a : IsAccepted p) (x : ℕ → ℕ) (z : ℕ) where
   dispatch_grouped r m t w = omega arith
 
   pub dispatched_made : (n : ℕ)
-      → dispatched_by p x z n ≡ all_service p * taken_calls p x n + split p * service_of p n * queued p x z * all_calls p
+      → dispatch_flow_by p x z n ≡ all_service p * taken_calls p x n + split p * service_of p n * queued_mass p x z * all_calls p
   dispatched_made n =
-      sum-same (atoms p) (dispatched p x z n)
-      (λ j. all_service p * (calls_of p j * taken_mass p x n j) + split p * service_of p n * queued p x z * calls_of p j)
-      (λ j l. dispatch_grouped (calls_of p j) (all_service p) (taken_mass p x n j) (split p * service_of p n * queued p x z))
+      sum-same (atoms p) (dispatch_flow p x z n)
+      (λ j. all_service p * (calls_of p j * taken_mass p x n j) + split p * service_of p n * queued_mass p x z * calls_of p j)
+      (λ j l. dispatch_grouped (calls_of p j) (all_service p) (taken_mass p x n j) (split p * service_of p n * queued_mass p x z))
       ∙ sum-add (atoms p) (λ j. all_service p * (calls_of p j * taken_mass p x n j))
-      (λ j. split p * service_of p n * queued p x z * calls_of p j)
+      (λ j. split p * service_of p n * queued_mass p x z * calls_of p j)
       ∙ (let first = sum-scaled (atoms p) (all_service p) (λ j. calls_of p j * taken_mass p x n j) in
-      let second = sum-scaled (atoms p) (split p * service_of p n * queued p x z) (calls_of p) in
+      let second = sum-scaled (atoms p) (split p * service_of p n * queued_mass p x z) (calls_of p) in
       omega (arith, first, second))
