@@ -1,0 +1,2 @@
+-- lemmas, each file on one subject
+pub mod Pieces

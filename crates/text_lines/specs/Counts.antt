@@ -1,0 +1,10 @@
+-- Whole numbers in a text: a field, and a row of two fields.
+use Rattle.std.specs.Prelude.{ℕ, List, ◌++◌, codes, decimal}
+
+-- a comma and a number
+abbrev pub number_field : ℕ → List ℕ
+number_field n = codes "," ++ decimal n
+
+-- a row of a word and a number
+abbrev pub count_row : List ℕ → ℕ → List ℕ
+count_row word n = word ++ number_field n ++ codes "\n"
