@@ -1,0 +1,80 @@
+#!/usr/bin/env python3
+"""Checks that what the README says is proved stands in the sources.
+
+Each row of its table 'What is proved' ends with the calls that carry the promise, each with the clauses it means in
+brackets, as `enclose` (`exact`, `solvable`). A call has to be a public function of one of the row's crates, and has to
+have these clauses, or at least one if none is named. A name with a capital letter may be a public type or trait.
+"""
+import pathlib
+import re
+import sys
+
+TOP = pathlib.Path(__file__).resolve().parent.parent
+CARRIER = re.compile(r"`([A-Za-z_][\w:]*)`(?: \((`\w+`(?:, `\w+`)*)\))?")
+FUNCTION = re.compile(r"^( *)(?:pub )?(?:final )?fn (\w+)", re.MULTILINE)
+TYPE = re.compile(r"^pub (?:struct|enum|trait) (\w+)", re.MULTILINE)
+IMPL = re.compile(r"^(?:impl|pub trait)\b[^\n{]*?\b(\w+)(?:<[^\n{]*>)?(?:: [^\n{]*)? \{", re.MULTILINE)
+
+
+def sources_of(crate):
+    for path in sorted((TOP / "crates" / crate / "src").rglob("*.rt")):
+        yield path.read_text()
+
+
+def contract_from(text, start):
+    """The part of a text from a function's name up to its body, or to the `;` that ends a trait's method."""
+    end = re.compile(r"^ *\{\}?$|\{\}$|;$", re.MULTILINE).search(text, start)
+    return text[start:end.end() if end else len(text)]
+
+
+def calls_of(crate):
+    """Each call by its name, and by its type's name too, with the names of its clauses ('' for one without a name)."""
+    calls = {}
+    for text in sources_of(crate):
+        impls = [(found.start(), found.group(1)) for found in IMPL.finditer(text)]
+        for found in FUNCTION.finditer(text):
+            clauses = re.findall(r"^\s*ensures ?(\w*) ?\{", contract_from(text, found.start()), re.MULTILINE)
+            owner = [name for start, name in impls if start < found.start()][-1:] if found.group(1) else []
+            names = [found.group(2)] + [f"{name}::{found.group(2)}" for name in owner]
+            for name in names:
+                calls.setdefault(name, set()).update(clauses)
+        for found in TYPE.finditer(text):
+            calls.setdefault(found.group(1), {""})
+    return calls
+
+
+def rows_of(readme):
+    table = readme.split("## What is proved", 1)[1].split("\n## ", 1)[0]
+    rows = [[cell.strip() for cell in row.strip("|").split(" | ")] for row in table.splitlines() if row.startswith("| `")]
+    if not rows:
+        sys.exit("README.md: the table of what is proved has no row")
+    return rows
+
+
+def faults():
+    for row in rows_of((TOP / "README.md").read_text()):
+        if len(row) != 3:
+            yield f"a row has not three cells: {row[0]}"
+            continue
+        crates = re.findall(r"`(\w+)`", row[0])
+        calls = [calls_of(crate) for crate in crates]
+        carriers = CARRIER.findall(row[2])
+        if not carriers:
+            yield f"{row[0]}: no call carries the promise '{row[1]}'"
+        for call, clauses in carriers:
+            found = [names[call] for names in calls if call in names]
+            if not found:
+                yield f"{row[0]}: there is no call {call}"
+                continue
+            have = set().union(*found)
+            if not have:
+                yield f"{row[0]}: {call} has no clause"
+            for clause in re.findall(r"\w+", clauses):
+                if clause not in have:
+                    yield f"{row[0]}: {call} has no clause {clause}"
+
+
+if __name__ == "__main__":
+    wrong = list(faults())
+    print("\n".join(f"README.md: {fault}" for fault in wrong) or "README.md: each call and clause of the table stands in the sources")
+    sys.exit(bool(wrong))

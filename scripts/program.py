@@ -1,0 +1,137 @@
+#!/usr/bin/env python3
+"""Builds the program `hypercube`, or runs it before any proof.
+
+  program.py build          proves and builds it, unless what is built is of these very sources
+  program.py try WORDS..    runs it on these words with no proof, in about a minute and a half
+
+The crates that the program stands on are proved side by side, each as soon as those below it are done.
+"""
+import concurrent.futures
+import hashlib
+import os
+import pathlib
+import re
+import subprocess
+import sys
+import time
+import tomllib
+
+TOP = pathlib.Path(__file__).resolve().parent.parent
+CRATES = TOP / "crates"
+PROGRAM = "hypercube"
+BUILT = CRATES / PROGRAM / "out" / PROGRAM
+STAMP = CRATES / PROGRAM / "out" / "sources.sha256"
+FAILED = 125
+
+
+def say(text):
+    print(f"{PROGRAM}: {text}", file=sys.stderr, flush=True)
+
+
+def graph_below(top):
+    """For each crate of the repository that `top` stands on, and for itself, the crates that it stands on."""
+    graph = {}
+    for row in (TOP / "crates.txt").read_text().splitlines():
+        name, colon, below = row.partition(":")
+        if colon and not row.startswith("#"):
+            graph[name.split()[0]] = below.split()
+    found, left = {}, [top]
+    while left:
+        name = left.pop()
+        if name not in found:
+            found[name] = [low for low in graph[name] if low in graph]
+            left += found[name]
+    return found
+
+
+def height_of(graph, name, heights):
+    """How many crates stand above this one in the longest chain: those with more begin first."""
+    if name not in heights:
+        above = [high for high, below in graph.items() if name in below]
+        heights[name] = 1 + max((height_of(graph, high, heights) for high in above), default=0)
+    return heights[name]
+
+
+def sum_of_sources(names):
+    """A checksum of all that a build reads."""
+    total = hashlib.sha256((TOP / "crates.txt").read_bytes())
+    for name in sorted(names):
+        for folder in ("src", "specs", "proofs"):
+            for path in sorted((CRATES / name / folder).rglob("*")):
+                if path.suffix in (".rt", ".antt"):
+                    total.update(str(path.relative_to(TOP)).encode() + b"\0" + path.read_bytes() + b"\0")
+    return total.hexdigest()
+
+
+def run_in(name, words):
+    return subprocess.run(["rt", *words], cwd=CRATES / name, text=True, stdin=subprocess.DEVNULL,
+                          stdout=subprocess.PIPE, stderr=subprocess.STDOUT)
+
+
+def prove(name):
+    began = time.monotonic()
+    # The program is proved and linked by a run of its own example.
+    done = run_in(name, ["run", "--", "solve", "data/a.csv"] if name == PROGRAM else ["lib", "--jobs", "1"])
+    return name, done, time.monotonic() - began
+
+
+def build():
+    graph = graph_below(PROGRAM)
+    wanted = sum_of_sources(graph)
+    if BUILT.exists() and STAMP.exists() and STAMP.read_text() == wanted:
+        return 0
+    say("proving and building the program, which takes some minutes the first time")
+    heights = {}
+    waiting = sorted(graph, key=lambda name: -height_of(graph, name, heights))
+    proved, running = set(), set()
+    with concurrent.futures.ThreadPoolExecutor(os.cpu_count() or 1) as pool:
+        while waiting or running:
+            for name in [name for name in waiting if proved.issuperset(graph[name])]:
+                waiting.remove(name)
+                running.add(pool.submit(prove, name))
+            ended, running = concurrent.futures.wait(running, return_when=concurrent.futures.FIRST_COMPLETED)
+            for name, done, seconds in (one.result() for one in ended):
+                if done.returncode:
+                    sys.stderr.write(done.stdout)
+                    say(f"{name} was not built")
+                    pool.shutdown(cancel_futures=True)
+                    return FAILED
+                proved.add(name)
+                say(f"{len(proved)} of {len(graph)}: {name}, {seconds:.0f} s")
+    STAMP.write_text(wanted)
+    return 0
+
+
+def files_named(words):
+    """The files that a run may ask for: those that a word names, and of a study the plans that it names."""
+    names = [word for word in words if pathlib.Path(word).is_file()]
+    for study in [name for name in names if name.endswith(".toml")]:
+        try:
+            plans = tomllib.loads(pathlib.Path(study).read_text()).get("plans", [])
+        except (OSError, ValueError):
+            continue
+        names += [plan for plan in plans if isinstance(plan, str) and pathlib.Path(plan).is_file()]
+    return dict.fromkeys(names)
+
+
+def try_out(words):
+    say("this run is not proved")
+    data = [flag for name in files_named(words) for flag in ("--data", f"{name}={pathlib.Path(name).resolve()}")]
+    done = subprocess.run(["rt", "try", "--steps", "1", *data, "--", *words], cwd=CRATES / PROGRAM,
+                          stdin=subprocess.DEVNULL, stderr=subprocess.PIPE)
+    told = done.stderr.decode(errors="replace")
+    ended = re.findall(r"^run=\S+ status=(\d+)", told, re.MULTILINE)
+    if ended:
+        return int(ended[-1])
+    sys.stderr.write(told)
+    return FAILED
+
+
+if __name__ == "__main__":
+    match sys.argv[1:]:
+        case ["build"]:
+            sys.exit(build())
+        case ["try", *words]:
+            sys.exit(try_out(words))
+        case _:
+            sys.exit(__doc__)
