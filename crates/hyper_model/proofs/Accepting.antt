@@ -6,8 +6,8 @@ use Rattle.hyper_model.specs.declared.parts.Unit as declared_unit
 use Rattle.hyper_model.specs.declared.parts.Atom.{Atom}
 use Rattle.hyper_model.specs.declared.parts.PlanParts.{PlanParts}
 use Rattle.hyper_model.specs.Groups.{GroupLists, row_of, list_of, groups_in, IsGrouped}
-use Rattle.hyper_model.specs.Plans.{no_unit, no_atom, HasLists}
-use Rattle.hyper_model.specs.Acceptance.{unit_name, atom_name, IsFullList, HasListSizes, AreGrouped}
+use Rattle.hyper_model.specs.Plans.{no_unit, no_atom, unit_name, atom_name, HasLists}
+use Rattle.hyper_model.specs.Acceptance.{IsFullList, HasListSizes, AreGrouped}
 use Rattle.hyper_model.proofs.Grouping.{grouped_from, from_grouped}
 
 -- the name of the unit that was read

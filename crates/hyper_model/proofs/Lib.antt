@@ -17,6 +17,7 @@ pub mod WordRates
 pub mod PlanLaws
 pub mod Masses
 pub mod Denominators
+pub mod MeasureWords
 pub mod OneValue
 pub mod Queue
 pub mod Levels
@@ -27,3 +28,4 @@ mod WorkedThreeUnits
 mod WorkedMixed
 mod WorkedAccepted
 mod WorkedGroups
+mod WorkedMeasures

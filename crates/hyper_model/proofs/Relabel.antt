@@ -1,20 +1,9 @@
 -- States under other numbers: `to` gives the old number of a state, `back` the new one.
-use Rattle.std.proofs.Common.{◌≡◌, ℕ, ◌*◌, ◌<◌, sym, ap, subst, ◌∙◌, arith}
+use Rattle.std.proofs.Common.{◌≡◌, ℕ, ◌*◌, sym, ap, subst, ◌∙◌, arith}
 use Rattle.hyper_model.specs.Sums.{sum_below}
-use Rattle.hyper_model.specs.Tables.{RateTable, IsBalancedState, SolvesTable}
+use Rattle.hyper_model.specs.Tables.{RateTable, IsBalancedState, SolvesTable, AreInverse, relabelled}
 use Rattle.hyper_model.proofs.Sums.{sum-permuted}
 use Rattle.hyper_model.proofs.Chains.{solves_alike}
-
--- two numberings of the first n states that undo each other
-pub record AreInverse (n : ℕ) (to back : ℕ → ℕ) : Type 0 where
-  pub to_below : (i : ℕ) → i < n → to i < n
-  pub back_below : (j : ℕ) → j < n → back j < n
-  pub back_to : (i : ℕ) → i < n → back (to i) ≡ i
-  pub to_back : (j : ℕ) → j < n → to (back j) ≡ j
-
--- the rates of a table under the new numbers
-abbrev pub relabelled : (ℕ → ℕ) → RateTable → RateTable
-relabelled to rate i j = rate (to i) (to j)
 
 pub sum_relabelled : (n : ℕ) (to back : ℕ → ℕ) (f : ℕ → ℕ) → AreInverse n to back
     → sum_below n (λ i. f (to i)) ≡ sum_below n f

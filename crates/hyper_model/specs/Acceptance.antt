@@ -14,12 +14,6 @@ HaveOwnNames n name = (i j : ℕ) → i < n → j < n → name i ≡ name j → 
 abbrev pub IsNamedBefore : ℕ → (ℕ → List ℕ) → Type 0
 IsNamedBefore n name = (i : ℕ) × ((i < n) × (name i ≡ name n))
 
-abbrev pub unit_name : PlanParts → ℕ → List ℕ
-unit_name p n = (unit_at p n).name
-
-abbrev pub atom_name : PlanParts → ℕ → List ℕ
-atom_name p j = (atom_at p j).name
-
 -- each of the n units has a rate of service within its limits
 abbrev pub HaveRates : PlanParts → Type 0
 HaveRates p = (n : ℕ) → n < units p → IsBetween 1 1000000 (unit_at p n).rate

@@ -1,11 +1,14 @@
 -- The measures of Larson's model, each as a numerator over a denominator (Larson 1974; Larson and Odoni,
 -- Urban Operations Research, chapter 5). x(w) is the mass of the word w with nobody waiting, z the mass of
 -- all states in which a call waits.
-use Rattle.std.specs.Prelude.{◌≡◌, ℕ, ◌+◌, ◌-◌, ◌*◌, ◌<◌, ◌≤◌, ◌==◌, Bool, true, false, if◌then◌else◌}
+use Rattle.std.specs.Prelude.{◌≡◌, ℕ, ◌+◌, ◌-◌, ◌*◌, ◌<◌, ◌≤◌, ◌==◌, Bool, true, false, if◌then◌else◌, List, [], ◌∷◌, Option, All, codes, find}
+use Rattle.std.specs.Str.{bytes_eq}
 use Rattle.hyper_model.specs.declared.kinds.Line.{Line}
 use Rattle.hyper_model.specs.declared.kinds.Line.TheVariants as line
 use Rattle.hyper_model.specs.declared.kinds.Measure.{Measure}
 use Rattle.hyper_model.specs.declared.kinds.Measure.TheVariants as measure
+use Rattle.hyper_model.specs.declared.kinds.Subject.{Subject}
+use Rattle.hyper_model.specs.declared.kinds.Subject.TheVariants as subject
 use Rattle.hyper_model.specs.declared.kinds.Found.{Found}
 use Rattle.hyper_model.specs.declared.kinds.Found.TheVariants as found
 use Rattle.hyper_model.specs.declared.kinds.Enclosed.{Enclosed}
@@ -13,7 +16,85 @@ use Rattle.hyper_model.specs.declared.parts.PlanParts.{PlanParts}
 use Rattle.hyper_model.specs.Sums.{sum_below}
 use Rattle.hyper_model.specs.Plans.{units, atoms, service_of, calls_of, all_calls, all_service, is_inside, district_calls, located, travel, split}
 use Rattle.hyper_model.specs.Words.{words, is_busy, full_word, takes, portion}
+use Rattle.hyper_model.specs.Solutions.{mass_in, IsSolution}
 
+-- what a measure is, in words: how it is printed and asked for, what it speaks of, and whether it is a time
+pub record Description : Type 0 where
+  pub word : List ℕ
+  pub subject : Subject
+  pub is_time : Bool
+
+abbrev pub number_named : List ℕ → Subject → Description
+number_named word about = record { word = word; subject = about; is_time = false }
+
+abbrev pub time_named : List ℕ → Subject → Description
+time_named word about = record { word = word; subject = about; is_time = true }
+
+-- each measure, described once
+abbrev pub description_of : Measure → Description
+description_of measure.Loss = number_named (codes "loss") subject.Region
+description_of measure.Delay = number_named (codes "delay") subject.Region
+description_of measure.Queue = number_named (codes "queue") subject.Region
+description_of measure.Wait = time_named (codes "wait") subject.Region
+description_of (measure.Workload n) = number_named (codes "workload") (subject.Unit n)
+description_of (measure.Dispatch n j) = number_named (codes "dispatch") (subject.UnitAndAtom n j)
+description_of measure.Interdistrict = number_named (codes "interdistrict") subject.Region
+description_of (measure.InterdistrictUnit n) = number_named (codes "interdistrict-unit") (subject.Unit n)
+description_of (measure.InterdistrictDistrict n) = number_named (codes "interdistrict-district") (subject.District n)
+description_of measure.Travel = time_named (codes "travel") subject.Region
+description_of (measure.TravelAtom j) = time_named (codes "travel-atom") (subject.Atom j)
+description_of (measure.TravelUnit n) = time_named (codes "travel-unit") (subject.Unit n)
+description_of (measure.TravelDistrict n) = time_named (codes "travel-district") (subject.District n)
+
+abbrev pub word_of : Measure → List ℕ
+word_of m = (description_of m).word
+
+abbrev pub subject_of : Measure → Subject
+subject_of m = (description_of m).subject
+
+abbrev pub is_time : Measure → Bool
+is_time m = (description_of m).is_time
+
+-- the last printed digit of times is a thousandth of a second, of all else a millionth
+abbrev pub scale_of : Measure → ℕ
+scale_of m = if is_time m then 1000 else 1000000
+
+-- the unit and the atom are the plan's
+abbrev pub IsSubjectOf : PlanParts → Subject → Type 0
+IsSubjectOf p subject.Region = Prim.Unit {0}
+IsSubjectOf p (subject.Unit n) = n < units p
+IsSubjectOf p (subject.Atom j) = j < atoms p
+IsSubjectOf p (subject.UnitAndAtom n j) = (n < units p) × (j < atoms p)
+IsSubjectOf p (subject.District n) = n < units p
+
+abbrev pub IsInRange : PlanParts → Measure → Type 0
+IsInRange p m = IsSubjectOf p (subject_of m)
+
+-- no call comes from the district, so nothing can be said of its calls
+abbrev pub is_silent : PlanParts → Subject → Bool
+is_silent p (subject.District n) = district_calls p n == 0
+is_silent p about = false
+
+abbrev pub is_without : PlanParts → Measure → Bool
+is_without p m = is_silent p (subject_of m)
+
+abbrev pub is_region : Subject → Bool
+is_region subject.Region = true
+is_region about = false
+
+abbrev pub is_of_region : Measure → Bool
+is_of_region m = is_region (subject_of m)
+
+-- those of the whole region, in the order of a report
+abbrev pub region_measures : List Measure
+region_measures =
+    measure.Loss ∷ measure.Delay ∷ measure.Queue ∷ measure.Wait ∷ measure.Interdistrict ∷ measure.Travel ∷ []
+
+-- the one of them that has the word, if any
+unfoldable pub measure_named : List ℕ → Option Measure
+measure_named word = find (λ m. bytes_eq word (word_of m)) region_measures
+
+-- the value of a measure
 pub record Ratio : Type 0 where
   pub numerator : ℕ
   pub denominator : ℕ
@@ -145,36 +226,10 @@ measure_of p x z (measure.TravelDistrict n) = record {
   denominator = 1000 * all_calls p * split p * base p x z * district_calls p n;
 }
 
--- no call comes from the district, so nothing can be said of its calls
-abbrev pub is_without : PlanParts → Measure → Bool
-is_without p (measure.InterdistrictDistrict n) = district_calls p n == 0
-is_without p (measure.TravelDistrict n) = district_calls p n == 0
-is_without p m = false
-
--- the last printed digit of times is a thousandth of a second, of all else a millionth
-abbrev pub scale_of : Measure → ℕ
-scale_of measure.Wait = 1000
-scale_of measure.Travel = 1000
-scale_of (measure.TravelAtom j) = 1000
-scale_of (measure.TravelUnit n) = 1000
-scale_of (measure.TravelDistrict n) = 1000
-scale_of m = 1000000
-
 -- lo over the scale is at most the ratio, and hi over the scale at least
 pub record ContainsRatio (lo hi scale : ℕ) (r : Ratio) : Type 0 where
   pub least : lo * r.denominator ≤ scale * r.numerator
   pub most : scale * r.numerator ≤ hi * r.denominator
-
--- the unit and the atom that the measure speaks of are the plan's
-abbrev pub IsInRange : PlanParts → Measure → Type 0
-IsInRange p (measure.Workload n) = n < units p
-IsInRange p (measure.Dispatch n j) = (n < units p) × (j < atoms p)
-IsInRange p (measure.InterdistrictUnit n) = n < units p
-IsInRange p (measure.InterdistrictDistrict n) = n < units p
-IsInRange p (measure.TravelAtom j) = j < atoms p
-IsInRange p (measure.TravelUnit n) = n < units p
-IsInRange p (measure.TravelDistrict n) = n < units p
-IsInRange p m = Prim.Unit {0}
 
 abbrev pub IsFoundOf : PlanParts → (ℕ → ℕ) → ℕ → Measure → Found → Type 0
 IsFoundOf p x z m (found.Ends lo hi) =
@@ -184,3 +239,11 @@ IsFoundOf p x z m found.Without = is_without p m ≡ true
 -- for these masses the measure has a value, and the ends contain it; or nothing was found, and it has none
 abbrev pub IsContained : PlanParts → (ℕ → ℕ) → ℕ → Enclosed → Type 0
 IsContained p x z e = IsFoundOf p x z e.measure e.found
+
+-- so has each item of a list
+abbrev pub AreContained : PlanParts → (ℕ → ℕ) → ℕ → List Enclosed → Type 0
+AreContained p x z items = All (IsContained p x z) items
+
+-- whatever solution the plan's masses are taken from
+abbrev pub ContainsSolutions : PlanParts → List Enclosed → Type 0
+ContainsSolutions p items = (xs : List ℕ) (z : ℕ) → IsSolution p xs z → AreContained p (mass_in xs) z items

@@ -30,6 +30,13 @@ unit_at p n = slice_index_or p.units n no_unit
 abbrev pub atom_at : PlanParts → ℕ → Atom
 atom_at p j = slice_index_or p.atoms j no_atom
 
+-- their names
+abbrev pub unit_name : PlanParts → ℕ → List ℕ
+unit_name p n = (unit_at p n).name
+
+abbrev pub atom_name : PlanParts → ℕ → List ℕ
+atom_name p j = (atom_at p j).name
+
 -- the rate at which unit n serves, and the rate of the calls of atom j, per period
 abbrev pub service_of : PlanParts → ℕ → ℕ
 service_of p n = (unit_at p n).rate
@@ -38,11 +45,17 @@ abbrev pub calls_of : PlanParts → ℕ → ℕ
 calls_of p j = (atom_at p j).rate
 
 -- the rate of all calls, and the rate at which all units serve when all are busy
+abbrev pub calls_in : List Atom → ℕ
+calls_in list = sum_below (length list) (λ j. (slice_index_or list j no_atom).rate)
+
+abbrev pub service_in : List declared_unit.Unit → ℕ
+service_in list = sum_below (length list) (λ n. (slice_index_or list n no_unit).rate)
+
 abbrev pub all_calls : PlanParts → ℕ
-all_calls p = sum_below (atoms p) (calls_of p)
+all_calls p = calls_in p.atoms
 
 abbrev pub all_service : PlanParts → ℕ
-all_service p = sum_below (units p) (service_of p)
+all_service p = service_in p.units
 
 -- the unit whose district atom j belongs to
 abbrev pub district_of : PlanParts → ℕ → ℕ
@@ -93,7 +106,7 @@ pub record IsBetween (least most value : ℕ) : Type 0 where
 -- 1 to 12 units with names of their own, each with a service rate, of 1,000,000 in all at most
 pub record HasUnits (p : PlanParts) : Type 0 where
   pub number : IsBetween 1 12 (units p)
-  pub named : (n m : ℕ) → n < units p → m < units p → (unit_at p n).name ≡ (unit_at p m).name → n ≡ m
+  pub named : (n m : ℕ) → n < units p → m < units p → unit_name p n ≡ unit_name p m → n ≡ m
   pub rates : (n : ℕ) → n < units p → IsBetween 1 1000000 (service_of p n)
   pub service : all_service p ≤ 1000000
 
@@ -107,7 +120,7 @@ pub record IsPlaced (n : ℕ) (atom : Atom) : Type 0 where
 -- 1 to 200 atoms with names of their own, and 1 to 1,000,000 calls in all
 pub record HasAtoms (p : PlanParts) : Type 0 where
   pub number : IsBetween 1 200 (atoms p)
-  pub named : (i j : ℕ) → i < atoms p → j < atoms p → (atom_at p i).name ≡ (atom_at p j).name → i ≡ j
+  pub named : (i j : ℕ) → i < atoms p → j < atoms p → atom_name p i ≡ atom_name p j → i ≡ j
   pub placed : (j : ℕ) → j < atoms p → IsPlaced (units p) (atom_at p j)
   pub calls : IsBetween 1 1000000 (all_calls p)
 

@@ -55,3 +55,14 @@ turn_rate p word n = if is_busy word n then split p * service_of p n else up p w
 -- the rates of a plan between words
 abbrev pub word_table : PlanParts → RateTable
 word_table p v w = sum_below (units p) (λ n. if w == turned_word v n then turn_rate p v n else 0)
+
+-- two numberings of the first n states that undo each other
+pub record AreInverse (n : ℕ) (to back : ℕ → ℕ) : Type 0 where
+  pub to_below : (i : ℕ) → i < n → to i < n
+  pub back_below : (j : ℕ) → j < n → back j < n
+  pub back_to : (i : ℕ) → i < n → back (to i) ≡ i
+  pub to_back : (j : ℕ) → j < n → to (back j) ≡ j
+
+-- the rates of a table under the new numbers
+abbrev pub relabelled : (ℕ → ℕ) → RateTable → RateTable
+relabelled to rate i j = rate (to i) (to j)

@@ -1,9 +1,8 @@
 ghost use Rattle.std.specs.Prelude.{◌≡◌, ◌<◌, ◌≤◌, ◌↔◌, ℕ, IsTrue, length};
-ghost use Rattle.hyper_model.specs.Plans.{units, atoms, all_calls, all_service, unit_at, atom_at, IsBetween, IsPlaced, HasUnits, HasAtoms, HasLists, HasLocations, HasTravel, IsStable, IsAccepted};
-ghost use Rattle.hyper_model.specs.Acceptance.{HaveOwnNames, IsNamedBefore, unit_name, atom_name, HaveRates, ArePlaced};
+ghost use Rattle.hyper_model.specs.Plans.{units, atoms, all_calls, all_service, unit_name, atom_name, IsBetween, IsPlaced, HasUnits, HasAtoms, HasLists, HasLocations, HasTravel, IsStable, IsAccepted};
+ghost use Rattle.hyper_model.specs.Acceptance.{HaveOwnNames, IsNamedBefore, HaveRates, ArePlaced};
 
 use crate::acceptance_tables::{has_lists, has_locations, has_travel};
-use crate::plan_sums::{calls_sum, service_sum};
 use crate::{Atom, Line, MOST_ATOMS, MOST_UNITS, PlanParts};
 
 /// The highest rate of a unit, of an atom, of all units or of all atoms, and the highest coordinate.
@@ -36,7 +35,7 @@ fn is_stable(parts: &PlanParts) -> bool
 {
     match parts.line {
         Line::Zero => true,
-        Line::Infinite => calls_sum(parts) < service_sum(parts),
+        Line::Infinite => parts.atoms.calls() < parts.units.service(),
     }
 }
 
@@ -47,7 +46,7 @@ fn has_units(parts: &PlanParts) -> bool
         && parts.units.len() <= MOST_UNITS
         && has_unit_names(parts)
         && has_unit_rates(parts)
-        && service_sum(parts) <= u64::from(MOST_RATE)
+        && parts.units.service() <= u64::from(MOST_RATE)
 }
 
 fn has_unit_names(parts: &PlanParts) -> bool
@@ -98,8 +97,8 @@ fn has_atoms(parts: &PlanParts) -> bool
         && parts.atoms.len() <= MOST_ATOMS
         && has_atom_names(parts)
         && has_atom_places(parts)
-        && 1 <= calls_sum(parts)
-        && calls_sum(parts) <= u64::from(MOST_RATE)
+        && 1 <= parts.atoms.calls()
+        && parts.atoms.calls() <= u64::from(MOST_RATE)
 }
 
 fn has_atom_names(parts: &PlanParts) -> bool

@@ -1,6 +1,3 @@
-ghost use Rattle.std.specs.Prelude.{◌≡◌};
-ghost use Rattle.hyper_model.specs.Measures.{scale_of};
-
 /// What becomes of a call that comes while all units are busy.
 #[derive(Clone, Copy, Debug, PartialEq, Eq)]
 pub enum Line {
@@ -55,10 +52,25 @@ pub enum Measure {
     TravelDistrict(u8),
 }
 
+/// What a measure speaks of. Units and atoms are counted from 0.
+#[derive(Clone, Copy, Debug, PartialEq, Eq)]
+pub enum Subject {
+    /// The whole region.
+    Region,
+    /// A unit.
+    Unit(u8),
+    /// An atom.
+    Atom(u16),
+    /// A unit and an atom.
+    UnitAndAtom(u8, u16),
+    /// The district of a unit.
+    District(u8),
+}
+
 /// What was found of a measure.
 #[derive(Clone, Copy, Debug, PartialEq, Eq)]
 pub enum Found {
-    /// The low and the high end, in units of the measure's [`scale`].
+    /// The low and the high end, in units of the measure's [`scale`](crate::scale).
     Ends(u64, u64),
     /// Nothing: no call comes from the district that the measure speaks of.
     Without,
@@ -69,18 +81,4 @@ pub enum Found {
 pub struct Enclosed {
     pub measure: Measure,
     pub found: Found,
-}
-
-/// How many units of a measure's last printed digit make one: 1000 for times, else 1,000,000.
-pub fn scale(measure: Measure) -> u32
-    ensures { result ≡ scale_of measure }
-{
-    match measure {
-        Measure::Wait
-        | Measure::Travel
-        | Measure::TravelAtom(_)
-        | Measure::TravelUnit(_)
-        | Measure::TravelDistrict(_) => 1000,
-        _ => 1_000_000,
-    }
 }

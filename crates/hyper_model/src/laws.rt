@@ -1,9 +1,17 @@
 //! The laws of the model, over its definitions alone (Larson 1974; Larson and Odoni, Urban Operations
 //! Research, chapter 5). Their calls answer nothing: each one's contract is a theorem on the plan.
+ghost use Rattle.hyper_model.specs.Plans.{IsAccepted};
 ghost use Rattle.hyper_model.specs.Solutions.{HasSolution};
 ghost use Rattle.hyper_model.specs.Laws.{AreWordsPositive, IsTailPositive, AreWordsProportional, IsTailProportional, HaveOneValue, TailLaw, LevelsLaw};
 
 use crate::Plan;
+
+/// The plan's parts are within their limits, and its calls do not queue without end.
+pub fn law_accepted(plan: &Plan)
+    ensures { IsAccepted plan.now }
+{
+    let _calls = plan.calls();
+}
 
 /// The balance equations have a solution in whole numbers, not all 0.
 ///
@@ -11,7 +19,7 @@ use crate::Plan;
 pub fn law_existence(plan: &Plan)
     ensures { HasSolution plan.now }
 {
-    let _calls = plan.calls();
+    law_accepted(plan);
 }
 
 /// In every solution each word has a mass, and so have the waiting calls where calls wait.
@@ -19,7 +27,7 @@ pub fn law_positive(plan: &Plan)
     ensures words { AreWordsPositive plan.now }
     ensures waiting { IsTailPositive plan.now }
 {
-    let _calls = plan.calls();
+    law_accepted(plan);
 }
 
 /// Any two solutions are proportional, so that every measure, a ratio of masses, has one value.
@@ -28,7 +36,7 @@ pub fn law_proportion(plan: &Plan)
     ensures waiting { IsTailProportional plan.now }
     ensures measures { HaveOneValue plan.now }
 {
-    let _calls = plan.calls();
+    law_accepted(plan);
 }
 
 /// With any number of waiting places, from one on, the words have the balance that they have without any,
@@ -36,7 +44,7 @@ pub fn law_proportion(plan: &Plan)
 pub fn law_tail(plan: &Plan)
     ensures { TailLaw plan.now }
 {
-    let _calls = plan.calls();
+    law_accepted(plan);
 }
 
 /// Where all units serve at one rate, the number of busy units is distributed as in Erlang's loss model:
@@ -45,5 +53,5 @@ pub fn law_tail(plan: &Plan)
 pub fn law_levels(plan: &Plan)
     ensures { LevelsLaw plan.now }
 {
-    let _calls = plan.calls();
+    law_accepted(plan);
 }

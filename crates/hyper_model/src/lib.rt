@@ -4,6 +4,7 @@
 
 mod acceptance;
 mod acceptance_tables;
+mod descriptions;
 mod enclosure_list;
 mod grid;
 mod kinds;
@@ -17,10 +18,11 @@ mod preference;
 mod sharing;
 mod travel_time;
 
+pub use descriptions::{measure_named, scale};
 pub use enclosure_list::Enclosures;
 pub use grid::Table;
-pub use kinds::{Enclosed, Found, Line, Measure, Rule, scale};
-pub use laws::{law_existence, law_levels, law_positive, law_proportion, law_tail};
+pub use kinds::{Enclosed, Found, Line, Measure, Rule, Subject};
+pub use laws::{law_accepted, law_existence, law_levels, law_positive, law_proportion, law_tail};
 pub use name::{MOST_NAME_BYTES, Name, NameEnd};
 pub use name_list::Names;
 pub use parts::{Atom, Atoms, PlanParts, Unit, Units};

@@ -1,5 +1,3 @@
-ghost use Rattle.std.specs.Prelude.{◌≡◌, ◌<◌, ◌≤◌, ℕ, List, [], ◌∷◌, ◌++◌, length, vec_len, vec_capacity, IfOk, slice_get, IsTrue, ◌↔◌};
-
 use crate::{Line, Lists, MOST_ATOMS, MOST_UNITS, Name, Rule, Table};
 use std::alloc::{AllocError, Global};
 use std::marker::Model;
@@ -43,6 +41,9 @@ impl Model for Units {
 }
 
 impl Units {
+    ghost use Rattle.std.specs.Prelude.{◌≡◌, ◌<◌, ◌≤◌, ℕ, List, [], ◌∷◌, ◌++◌, length, IfOk, slice_get, IsTrue, ◌↔◌};
+    ghost use Rattle.hyper_model.specs.Plans.{service_in};
+
     /// No units, with room for twelve.
     pub fn of(alloc: Global) -> Result<Units, AllocError>
         ensures { IfOk result (λ units. units ≡ []) }
@@ -75,6 +76,17 @@ impl Units {
         self.items.is_empty()
     }
 
+    /// The rate at which all of them serve together, per period.
+    pub fn service(&self) -> u64
+        ensures { result ≡ service_in self.now }
+    {
+        let mut total = 0;
+        for n in 0..self.items.len() {
+            total += u64::from(self.items[n].rate);
+        }
+        total
+    }
+
     /// The unit at this place, counted from 0.
     pub fn get(&self, place: usize) -> &Unit
         requires { place < length self.now }
@@ -102,6 +114,9 @@ impl Model for Atoms {
 }
 
 impl Atoms {
+    ghost use Rattle.std.specs.Prelude.{◌≡◌, ◌<◌, ◌≤◌, ℕ, List, [], ◌∷◌, ◌++◌, length, IfOk, slice_get, IsTrue, ◌↔◌};
+    ghost use Rattle.hyper_model.specs.Plans.{calls_in};
+
     /// No atoms, with room for 200.
     pub fn of(alloc: Global) -> Result<Atoms, AllocError>
         ensures { IfOk result (λ atoms. atoms ≡ []) }
@@ -132,6 +147,17 @@ impl Atoms {
         ensures { IsTrue result ↔ (self.now ≡ []) }
     {
         self.items.is_empty()
+    }
+
+    /// The rate of all their calls, per period.
+    pub fn calls(&self) -> u64
+        ensures { result ≡ calls_in self.now }
+    {
+        let mut total = 0;
+        for j in 0..self.items.len() {
+            total += u64::from(self.items[j].rate);
+        }
+        total
     }
 
     /// The atom at this place, counted from 0.

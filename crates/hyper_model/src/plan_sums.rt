@@ -1,34 +1,12 @@
 ghost use Rattle.std.specs.Prelude.{◌≡◌, ◌<◌, length};
 ghost use Rattle.std.specs.List.{list_all};
 ghost use Rattle.hyper_model.specs.Groups.{groups_in};
-ghost use Rattle.hyper_model.specs.Plans.{all_calls, all_service, are_single, split, IsAccepted};
+ghost use Rattle.hyper_model.specs.Plans.{are_single, split, IsAccepted};
 
 use crate::{Lists, PlanParts};
 
 /// What all rates are multiplied by where a group has two units or more: each number from 1 to 12 divides it.
 const SHARES: u32 = 27_720;
-
-/// The rate of all calls, per period.
-pub(crate) fn calls_sum(parts: &PlanParts) -> u64
-    ensures { result ≡ all_calls parts.now }
-{
-    let mut total = 0;
-    for j in 0..parts.atoms.len() {
-        total += u64::from(parts.atoms.get(j).rate);
-    }
-    total
-}
-
-/// The rate at which all units together serve, per period.
-pub(crate) fn service_sum(parts: &PlanParts) -> u64
-    ensures { result ≡ all_service parts.now }
-{
-    let mut total = 0;
-    for n in 0..parts.units.len() {
-        total += u64::from(parts.units.get(n).rate);
-    }
-    total
-}
 
 /// The factor of all rates in the balance equations: 1 where each group has one unit.
 pub(crate) fn split_of(parts: &PlanParts) -> u32

@@ -2,7 +2,7 @@ ghost use Rattle.std.specs.Prelude.{◌≡◌, ◌<◌, ◌≤◌, ℕ, MatchRes
 ghost use Rattle.hyper_model.specs.Plans.{units, atoms, unit_at, atom_at, all_calls, all_service, located, travel, split, IsAccepted};
 
 use crate::acceptance::is_accepted;
-use crate::plan_sums::{calls_sum, service_sum, split_of};
+use crate::plan_sums::split_of;
 use crate::{Atom, Line, Lists, PlanParts, Rule, Table, Unit};
 use std::marker::Model;
 
@@ -36,15 +36,23 @@ impl Plan {
         if !is_accepted(&parts) {
             return Err(parts);
         }
-        let calls = calls_sum(&parts) as u32;
-        let service = service_sum(&parts) as u32;
+        Ok(Plan::of_accepted(parts))
+    }
+
+    /// The plan of parts that a fleet can have.
+    pub fn of_accepted(parts: PlanParts) -> Plan
+        requires { IsAccepted parts }
+        ensures { result ≡ parts }
+    {
+        let calls = parts.atoms.calls() as u32;
+        let service = parts.units.service() as u32;
         let split = split_of(&parts);
-        Ok(Plan {
+        Plan {
             parts,
             calls,
             service,
             split,
-        })
+        }
     }
 
     /// What becomes of a call while all units are busy.

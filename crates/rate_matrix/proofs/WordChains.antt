@@ -7,12 +7,12 @@ use Rattle.hyper_model.specs.Plans.{units, IsAccepted}
 use Rattle.hyper_model.specs.Words.{words, is_busy, turned_word}
 use Rattle.hyper_model.specs.Laws.{level}
 use Rattle.hyper_model.specs.Solutions.{mass_in, SolvesWords}
-use Rattle.hyper_model.specs.Tables.{RateTable, Descends, IsTableSolution, between_states, word_table}
+use Rattle.hyper_model.specs.Tables.{RateTable, Descends, IsTableSolution, between_states, word_table, AreInverse}
 use Rattle.hyper_model.proofs.Sums.{on_test, sum-le}
 use Rattle.hyper_model.proofs.Bits.{busy_exists, turned_lt}
 use Rattle.hyper_model.proofs.Levels.{level_down, level_up}
 use Rattle.hyper_model.proofs.Chains.{solves_alike}
-use Rattle.hyper_model.proofs.Relabel.{AreInverse, renumbered, renumbered_back, sum_relabelled}
+use Rattle.hyper_model.proofs.Relabel.{renumbered, renumbered_back, sum_relabelled}
 use Rattle.hyper_model.proofs.WordTables.{service_positive}
 use Rattle.hyper_model.proofs.WordRates.{leaving_le, leaving_row, table_elsewhere}
 use Rattle.hyper_model.proofs.PlanLaws.{solves_word_table, table_solves_words}

@@ -4,8 +4,7 @@ use Rattle.hyper_model.specs.declared.parts.PlanParts.{PlanParts}
 use Rattle.hyper_model.specs.Plans.{units, all_calls, all_service, split}
 use Rattle.hyper_model.specs.Laws.{level}
 use Rattle.hyper_model.specs.Solutions.{mass_in}
-use Rattle.hyper_model.specs.Tables.{RateTable, word_table}
-use Rattle.hyper_model.proofs.Relabel.{relabelled}
+use Rattle.hyper_model.specs.Tables.{RateTable, word_table, relabelled}
 use Rattle.busy_words.specs.Order.{WordOrder, word_at}
 
 -- the rates between words, by rank

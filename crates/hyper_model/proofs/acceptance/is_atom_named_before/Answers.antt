@@ -1,6 +1,6 @@
 use Rattle.std.proofs.Common.{◌≡◌, ◌∙◌, sym, refl, below_more}
 use Rattle.std.proofs.lemmas.Slice.Eq.{bytes_eq-Decides}
-use Rattle.hyper_model.specs.Acceptance.{atom_name}
+use Rattle.hyper_model.specs.Plans.{atom_name}
 use Rattle.hyper_model.proofs.Accepting.{atom_name_at}
 use Rattle.hyper_model.proofs.acceptance.is_atom_named_before.Goals as goal
 

@@ -1,5 +1,5 @@
 use Rattle.std.proofs.Common.{◌≡◌, ◌<◌, ℕ}
-use Rattle.hyper_model.specs.Acceptance.{atom_name}
+use Rattle.hyper_model.specs.Plans.{atom_name}
 use Rattle.hyper_model.proofs.acceptance.is_atom_named_before.Given as goal
 
 abbrev pub invariant-loop-i : goal.invariant-loop-i

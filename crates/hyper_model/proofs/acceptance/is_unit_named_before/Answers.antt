@@ -1,6 +1,6 @@
 use Rattle.std.proofs.Common.{◌≡◌, ◌∙◌, sym, refl, below_more}
 use Rattle.std.proofs.lemmas.Slice.Eq.{bytes_eq-Decides}
-use Rattle.hyper_model.specs.Acceptance.{unit_name}
+use Rattle.hyper_model.specs.Plans.{unit_name}
 use Rattle.hyper_model.proofs.Accepting.{unit_name_at}
 use Rattle.hyper_model.proofs.acceptance.is_unit_named_before.Goals as goal
 

@@ -1,5 +1,5 @@
 use Rattle.std.proofs.Common.{◌≡◌, ◌<◌, ℕ}
-use Rattle.hyper_model.specs.Acceptance.{unit_name}
+use Rattle.hyper_model.specs.Plans.{unit_name}
 use Rattle.hyper_model.proofs.acceptance.is_unit_named_before.Given as goal
 
 abbrev pub invariant-loop-m : goal.invariant-loop-m

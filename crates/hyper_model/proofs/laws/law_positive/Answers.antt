@@ -3,6 +3,6 @@ use Rattle.hyper_model.proofs.laws.law_positive.Goals as goal
 
 pub returns : goal.returns
 returns c = record {
-  words = words_are_positive c.args.plan.now c.calls-calls.ensures.accepted;
-  waiting = tail_is_positive c.args.plan.now c.calls-calls.ensures.accepted;
+  words = words_are_positive c.args.plan.now c.law_accepted.ensures;
+  waiting = tail_is_positive c.args.plan.now c.law_accepted.ensures;
 }

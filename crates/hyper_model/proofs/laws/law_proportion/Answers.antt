@@ -4,7 +4,7 @@ use Rattle.hyper_model.proofs.laws.law_proportion.Goals as goal
 
 pub returns : goal.returns
 returns c = record {
-  words = words_are_proportional c.args.plan.now c.calls-calls.ensures.accepted;
-  waiting = tail_is_proportional c.args.plan.now c.calls-calls.ensures.accepted;
-  measures = have_one_value c.args.plan.now c.calls-calls.ensures.accepted;
+  words = words_are_proportional c.args.plan.now c.law_accepted.ensures;
+  waiting = tail_is_proportional c.args.plan.now c.law_accepted.ensures;
+  measures = have_one_value c.args.plan.now c.law_accepted.ensures;
 }
