@@ -1,3 +1,2 @@
 -- lemmas, each file on one subject
-pub mod Pieces
 pub mod States

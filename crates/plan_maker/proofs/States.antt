@@ -1,7 +1,7 @@
 -- The states of the generator, three draws for each atom.
 use Rattle.std.proofs.Common.{◌≡◌, ℕ, suc, ◌+◌, ◌*◌, ap, ◌∙◌, sym, arith}
 use Rattle.plan_maker.specs.declared.atoms.DrawnAtom.{DrawnAtom}
-use Rattle.plan_maker.specs.Draws.{drawn_at, drawn_atom, next_state, state_after}
+use Rattle.plan_maker.specs.Draws.{number_from, drawn_atom, next_state, state_after}
 
 -- one more draw
 state_after-next : (number draws later : ℕ) → later ≡ suc draws
@@ -36,15 +36,15 @@ atom_of-same : (p q r s x u y v : ℕ) → p ≡ q → r ≡ s → x ≡ u → y
 atom_of-same p q r s x u y v place rate across along = cc
 
 -- an atom that is drawn from the state after the draws of those before it
-pub drawn_here : (number place state : ℕ) (atom : DrawnAtom) → state ≡ state_after number (3 * place)
-    → atom.place ≡ place → atom.rate ≡ 1 + drawn_at (next_state state) 4
-    → atom.x ≡ drawn_at (next_state (next_state state)) 10000
-    → atom.y ≡ drawn_at (next_state (next_state (next_state state))) 10000
+pub atom_here : (number place state : ℕ) (atom : DrawnAtom) → state ≡ state_after number (3 * place)
+    → atom.place ≡ place → atom.rate ≡ 1 + number_from (next_state state) 4
+    → atom.x ≡ number_from (next_state (next_state state)) 10000
+    → atom.y ≡ number_from (next_state (next_state (next_state state))) 10000
     → atom ≡ drawn_atom number place
-drawn_here number place state atom is place_is rate_is x_is y_is =
+atom_here number place state atom is place_is rate_is x_is y_is =
     atom_of-same _ _ _ _ _ _ _ _ place_is
-    (rate_is ∙ ap (λ s. 1 + drawn_at s 4) (ap next_state is ∙ sym (first_draw number place)))
-    (x_is ∙ ap (λ s. drawn_at s 10000) (ap (λ s. next_state (next_state s)) is ∙ sym (second_draw number place)))
+    (rate_is ∙ ap (λ s. 1 + number_from s 4) (ap next_state is ∙ sym (first_draw number place)))
+    (x_is ∙ ap (λ s. number_from s 10000) (ap (λ s. next_state (next_state s)) is ∙ sym (second_draw number place)))
     (y_is
-    ∙ ap (λ s. drawn_at s 10000)
+    ∙ ap (λ s. number_from s 10000)
     (ap (λ s. next_state (next_state (next_state s))) is ∙ sym (third_draw number place)))

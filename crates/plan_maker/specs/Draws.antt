@@ -13,12 +13,12 @@ state_after number zero = number
 state_after number (suc draws) = next_state (state_after number draws)
 
 -- what a draw below a bound gives, once it has moved the state: the upper half of it, modulo the bound
-abbrev pub drawn_at : ℕ → ℕ → ℕ
-drawn_at state bound = state / 65536 % bound
+abbrev pub number_from : ℕ → ℕ → ℕ
+number_from state bound = state / 65536 % bound
 
 -- the nth draw, from 1 on
 abbrev pub draw : ℕ → ℕ → ℕ → ℕ
-draw number nth bound = drawn_at (state_after number nth) bound
+draw number nth bound = number_from (state_after number nth) bound
 
 -- each atom takes three draws, in this order; places are counted from 0
 abbrev pub drawn_atom : ℕ → ℕ → DrawnAtom

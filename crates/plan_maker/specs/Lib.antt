@@ -1,4 +1,4 @@
 pub mod Draws
-pub mod Lines
+pub mod Rows
 pub mod Plans
 pub mod Refusals

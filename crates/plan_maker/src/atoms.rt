@@ -1,5 +1,5 @@
 ghost use Rattle.std.specs.Prelude.{◌≡◌, ◌+◌, IfOk};
-ghost use Rattle.plan_maker.specs.Draws.{next_state, drawn_at, drawn_atoms};
+ghost use Rattle.plan_maker.specs.Draws.{next_state, number_from, drawn_atoms};
 
 use crate::generator::Generator;
 use std::alloc::{AllocError, Global};
@@ -32,10 +32,10 @@ pub(crate) fn draw_atoms(
 
 fn draw_atom(generator: &mut Generator, place: u32) -> DrawnAtom
     ensures place { result.place ≡ place }
-    ensures rate { result.rate ≡ 1 + drawn_at (next_state generator.old.state) 4 }
-    ensures x { result.x ≡ drawn_at (next_state (next_state generator.old.state)) 10000 }
+    ensures rate { result.rate ≡ 1 + number_from (next_state generator.old.state) 4 }
+    ensures x { result.x ≡ number_from (next_state (next_state generator.old.state)) 10000 }
     ensures y { result.y
-        ≡ drawn_at (next_state (next_state (next_state generator.old.state))) 10000 }
+        ≡ number_from (next_state (next_state (next_state generator.old.state))) 10000 }
     ensures state { generator.new.state
         ≡ next_state (next_state (next_state generator.old.state)) }
 {

@@ -1,5 +1,5 @@
 ghost use Rattle.std.specs.Prelude.{◌≡◌, ◌<◌};
-ghost use Rattle.plan_maker.specs.Draws.{next_state, drawn_at};
+ghost use Rattle.plan_maker.specs.Draws.{next_state, number_from};
 
 /// A linear congruential generator. It draws the same numbers from the same state.
 #[derive(Drop)]
@@ -12,7 +12,7 @@ impl Generator {
     pub(crate) fn draw(&mut self, bound: u32) -> u32
         requires { 0 < bound }
         ensures state { self.new.state ≡ next_state self.old.state }
-        ensures value { result ≡ drawn_at self.new.state bound }
+        ensures value { result ≡ number_from self.new.state bound }
         ensures in_range { result < bound }
     {
         self.state = self

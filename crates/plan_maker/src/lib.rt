@@ -1,17 +1,17 @@
 //! Plans for trials: a number of units and a number to begin with make the same text each time.
 //!
-//! Each plan has four atoms for each unit, with rates and places that look as if they were drawn by
+//! Each plan has four atoms for each unit, with rates and points that look as if they were drawn by
 //! chance. The units answer by distance, so no preference lists are in the text.
 #![tactic(auto)]
 
 mod atoms;
 mod generator;
-mod lines;
 mod making;
 mod records;
 mod refusal;
+mod rows;
 #[cfg(test)]
 mod tests;
 
-pub use making::make;
+pub use making::{LEAST_MADE_UNITS, MOST_MADE_UNITS, MOST_PLAN_NUMBER, make};
 pub use refusal::MakeRefusal;

@@ -1,10 +1,20 @@
-ghost use Rattle.std.specs.Prelude.{◌≡◌, ◌≢◌, ◌≤◌, ◌<◌, ◌^◌, ◌↔◌, IsTrue, IfOk, Err};
+ghost use Rattle.std.specs.Prelude.{◌≡◌, ◌≢◌, ◌≤◌, ◌↔◌, IsTrue, IfOk, Err};
 ghost use Rattle.plan_maker.specs.Plans.{IsMakeable, plan_bytes};
+ghost use Rattle.plan_maker.specs.declared.making.TheConstants.{LEAST_MADE_UNITS, MOST_MADE_UNITS};
 
 use crate::MakeRefusal;
 use crate::atoms::draw_atoms;
 use crate::records::{push_all_locations, push_all_travel, push_atoms, push_head, push_units};
 use std::alloc::{AllocError, Global};
+
+/// The fewest units that a made plan has.
+pub const LEAST_MADE_UNITS: u64 = 2;
+
+/// The most units that a made plan has.
+pub const MOST_MADE_UNITS: u64 = 10;
+
+/// The highest number from which a plan is made.
+pub const MOST_PLAN_NUMBER: u64 = 4_294_967_295;
 
 /// The text of a plan of so many units, from 2 to 10, made from a number of at most 4,294,967,295.
 ///
@@ -27,13 +37,13 @@ pub fn make(alloc: Global, units: u64, number: u64) -> Result<Vec<u8>, MakeRefus
 fn is_makeable(units: u64, number: u64) -> bool
     ensures { IsTrue result ↔ IsMakeable units number }
 {
-    (2..=10).contains(&units) && number <= u64::from(u32::MAX)
+    (LEAST_MADE_UNITS..=MOST_MADE_UNITS).contains(&units) && number <= MOST_PLAN_NUMBER
 }
 
 #[tactic(auto, unfolding(crate::specs::Plans::plan_bytes))]
 fn plan_text(alloc: Global, units: u64, number: u32) -> Result<Vec<u8>, AllocError>
-    requires least { 2 ≤ units }
-    requires most { units ≤ 10 }
+    requires least { LEAST_MADE_UNITS ≤ units }
+    requires most { units ≤ MOST_MADE_UNITS }
     ensures { IfOk result (λ text. text.items ≡ plan_bytes units number) }
 {
     let atoms = draw_atoms(alloc, number, 4 * units as u32)?;

@@ -15,7 +15,7 @@ impl MakeRefusal {
     ghost use Rattle.std.specs.Prelude.{◌≡◌};
     ghost use Rattle.plan_maker.specs.Refusals.{number_of};
 
-    /// The refusal's number, 0 for want of memory.
+    /// The refusal's number, and 0 for lack of memory.
     pub fn number(&self) -> u32
         ensures { result ≡ number_of self.now }
     {

@@ -1,8 +1,8 @@
-//! What all written texts are made of: numbers in decimal, ends of a measure, and rows of two fields.
+//! What all written texts are made of: fields, whole numbers, decimal fractions, and rows of two fields.
 #![tactic(auto)]
 
-mod counts;
+mod fields;
 mod fractions;
 
-pub use counts::{push_count, push_decimal, push_number_field};
+pub use fields::{push_count, push_decimal, push_number_field, push_text_field};
 pub use fractions::{number_text, push_ends, push_number};

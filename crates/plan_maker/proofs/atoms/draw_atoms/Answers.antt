@@ -2,7 +2,7 @@ use Rattle.std.proofs.Common.{◌≡◌, ◌∙◌, ap, sym, arith, List, [], �
 use Rattle.std.proofs.lemmas.List.FromFn.{map-range_with_len_more}
 use Rattle.plan_maker.specs.declared.atoms.DrawnAtom.{DrawnAtom}
 use Rattle.plan_maker.specs.Draws.{drawn_atom, drawn_atoms, next_state}
-use Rattle.plan_maker.proofs.States.{drawn_here, three_draws}
+use Rattle.plan_maker.proofs.States.{atom_here, three_draws}
 use Rattle.plan_maker.proofs.atoms.draw_atoms.Goals as goal
 
 pub loop-place-preserved : goal.loop-place-preserved
@@ -10,7 +10,7 @@ loop-place-preserved c =
     let number = c.args.number in
     let place = c.loop-place.place in
     let drawn : c.draw_atom.result ≡ drawn_atom number place =
-    drawn_here number place c.loop-place.generator.state c.draw_atom.result c.loop-place.invariant.state
+    atom_here number place c.loop-place.generator.state c.draw_atom.result c.loop-place.invariant.state
     c.draw_atom.ensures.place c.draw_atom.ensures.rate c.draw_atom.ensures.x c.draw_atom.ensures.y in
     record {
       state = c.draw_atom.ensures.state

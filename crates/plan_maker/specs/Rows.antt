@@ -1,6 +1,7 @@
--- The records of a made plan, a line each.
+-- The records of a made plan, a row each.
 use Rattle.std.specs.Prelude.{ℕ, ◌+◌, ◌/◌, ◌%◌, List, ◌++◌, codes, decimal}
 use Rattle.std.specs.Int.{abs_diff}
+use Rattle.text_lines.specs.Fields.{number_field}
 use Rattle.plan_maker.specs.declared.atoms.DrawnAtom.{DrawnAtom}
 
 -- the units are U1, U2 and so on
@@ -15,29 +16,26 @@ atom_name j = codes "A" ++ decimal j
 abbrev pub name_of : DrawnAtom → List ℕ
 name_of atom = atom_name (atom.place + 1)
 
-abbrev pub number_field : ℕ → List ℕ
-number_field n = codes "," ++ decimal n
-
-abbrev pub head_lines : List ℕ
-head_lines = codes "version,1\nline,zero\nrule,modified\nperiod,3600\n"
+abbrev pub head_rows : List ℕ
+head_rows = codes "version,1\nline,zero\nrule,modified\nperiod,3600\n"
 
 -- a unit serves 20 calls per period
-abbrev pub unit_line : ℕ → List ℕ
-unit_line n = codes "unit," ++ unit_name n ++ codes ",20\n"
+abbrev pub unit_row : ℕ → List ℕ
+unit_row n = codes "unit," ++ unit_name n ++ codes ",20\n"
 
 -- the atoms are in the districts of the units in turn
 abbrev pub district_of : ℕ → DrawnAtom → ℕ
 district_of units atom = 1 + atom.place % units
 
--- the fields of an atom's rate and place
-abbrev pub drawn_fields : DrawnAtom → List ℕ
-drawn_fields atom = number_field atom.rate ++ number_field atom.x ++ number_field atom.y
+-- the fields of an atom's rate and point
+abbrev pub atom_numbers : DrawnAtom → List ℕ
+atom_numbers atom = number_field atom.rate ++ number_field atom.x ++ number_field atom.y
 
-abbrev pub atom_line : ℕ → DrawnAtom → List ℕ
-atom_line units atom =
+abbrev pub atom_row : ℕ → DrawnAtom → List ℕ
+atom_row units atom =
     codes "atom,"
     ++ name_of atom
-    ++ drawn_fields atom
+    ++ atom_numbers atom
     ++ codes ","
     ++ unit_name (district_of units atom)
     ++ codes "\n"
@@ -46,8 +44,8 @@ atom_line units atom =
 abbrev pub travel_seconds : DrawnAtom → DrawnAtom → ℕ
 travel_seconds from to = 60 + (abs_diff from.x to.x + abs_diff from.y to.y) / 10
 
-abbrev pub travel_line : DrawnAtom → DrawnAtom → List ℕ
-travel_line from to =
+abbrev pub travel_row : DrawnAtom → DrawnAtom → List ℕ
+travel_row from to =
     codes "travel,"
     ++ name_of from
     ++ codes ","
@@ -56,10 +54,10 @@ travel_line from to =
     ++ codes "\n"
 
 -- of its free time, a unit spends so many thousandths at an atom
-abbrev pub at_line : ℕ → ℕ → ℕ → List ℕ
-at_line n j thousandths =
+abbrev pub at_row : ℕ → ℕ → ℕ → List ℕ
+at_row n j thousandths =
     codes "at," ++ unit_name n ++ codes "," ++ atom_name j ++ number_field thousandths ++ codes "\n"
 
 -- a unit spends it at the first two atoms of its district
-abbrev pub location_lines : ℕ → ℕ → List ℕ
-location_lines units n = at_line n n 700 ++ at_line n (n + units) 300
+abbrev pub location_rows : ℕ → ℕ → List ℕ
+location_rows units n = at_row n n 700 ++ at_row n (n + units) 300

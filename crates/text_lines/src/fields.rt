@@ -1,5 +1,5 @@
 ghost use Rattle.std.specs.Prelude.{◌≡◌, ◌++◌, IfOk, decimal};
-ghost use Rattle.text_lines.specs.Counts.{count_row, number_field};
+ghost use Rattle.text_lines.specs.Fields.{count_row, number_field, text_field};
 
 use itoa::Buffer;
 use std::alloc::AllocError;
@@ -12,6 +12,14 @@ pub fn push_decimal(text: &mut Vec<u8>, number: u64) -> Result<(), AllocError>
 {
     let mut digits = Buffer::new();
     text.extend_from_slice(digits.format(number).as_bytes())
+}
+
+/// Puts a comma and a field after the text.
+pub fn push_text_field(text: &mut Vec<u8>, field: &[u8]) -> Result<(), AllocError>
+    ensures { IfOk result (λ _. text.new.items ≡ text.old.items ++ text_field field.now) }
+{
+    text.push(b',')?;
+    text.extend_from_slice(field)
 }
 
 /// Puts a comma and a whole number after the text.

@@ -1,54 +1,55 @@
-ghost use Rattle.std.specs.Prelude.{◌≡◌, ◌<◌, ◌++◌, IfOk, decimal};
-ghost use Rattle.plan_maker.specs.Lines.{atom_line, at_line, drawn_fields, name_of, atom_name, unit_name, number_field, travel_line, travel_seconds, unit_line, location_lines};
+ghost use Rattle.std.specs.Prelude.{◌≡◌, ◌<◌, ◌≤◌, ◌++◌, IfOk};
+ghost use Rattle.plan_maker.specs.Rows.{atom_row, at_row, atom_numbers, name_of, atom_name, unit_name, travel_row, travel_seconds, unit_row, location_rows};
+ghost use Rattle.plan_maker.specs.declared.making.TheConstants.{MOST_MADE_UNITS};
 
 use crate::atoms::DrawnAtom;
-use itoa::Buffer;
 use std::alloc::AllocError;
+use text_lines::{push_decimal, push_number_field};
 
-/// Puts the record of unit `n` behind the text.
+/// Puts the record of unit `n` after the text.
 pub(crate) fn push_unit(text: &mut Vec<u8>, n: u64) -> Result<(), AllocError>
-    ensures { IfOk result (λ _. text.new.items ≡ text.old.items ++ unit_line n) }
+    ensures { IfOk result (λ _. text.new.items ≡ text.old.items ++ unit_row n) }
 {
     text.extend_from_slice(b"unit,")?;
     push_unit_name(text, n)?;
     text.extend_from_slice(b",20\n")
 }
 
-/// Puts the record of an atom behind the text.
+/// Puts the record of an atom after the text.
 pub(crate) fn push_atom(text: &mut Vec<u8>, units: u64, atom: &DrawnAtom) -> Result<(), AllocError>
     requires { 0 < units }
-    ensures { IfOk result (λ _. text.new.items ≡ text.old.items ++ atom_line units atom.now) }
+    ensures { IfOk result (λ _. text.new.items ≡ text.old.items ++ atom_row units atom.now) }
 {
     text.extend_from_slice(b"atom,")?;
     push_name(text, atom)?;
-    push_drawn(text, atom)?;
+    push_numbers(text, atom)?;
     text.push(b',')?;
     push_unit_name(text, 1 + u64::from(atom.place) % units)?;
     text.push(b'\n')?;
     Ok(())
 }
 
-fn push_drawn(text: &mut Vec<u8>, atom: &DrawnAtom) -> Result<(), AllocError>
-    ensures { IfOk result (λ _. text.new.items ≡ text.old.items ++ drawn_fields atom.now) }
+fn push_numbers(text: &mut Vec<u8>, atom: &DrawnAtom) -> Result<(), AllocError>
+    ensures { IfOk result (λ _. text.new.items ≡ text.old.items ++ atom_numbers atom.now) }
 {
-    push_number(text, u64::from(atom.rate))?;
-    push_number(text, u64::from(atom.x))?;
-    push_number(text, u64::from(atom.y))
+    push_number_field(text, u64::from(atom.rate))?;
+    push_number_field(text, u64::from(atom.x))?;
+    push_number_field(text, u64::from(atom.y))
 }
 
-/// Puts the record of the travel from one atom to another behind the text.
+/// Puts the record of the travel from one atom to another after the text.
 pub(crate) fn push_travel(
     text: &mut Vec<u8>,
     from: &DrawnAtom,
     to: &DrawnAtom,
 ) -> Result<(), AllocError>
-    ensures { IfOk result (λ _. text.new.items ≡ text.old.items ++ travel_line from.now to.now) }
+    ensures { IfOk result (λ _. text.new.items ≡ text.old.items ++ travel_row from.now to.now) }
 {
     text.extend_from_slice(b"travel,")?;
     push_name(text, from)?;
     text.push(b',')?;
     push_name(text, to)?;
-    push_number(text, seconds_between(from, to))?;
+    push_number_field(text, seconds_between(from, to))?;
     text.push(b'\n')?;
     Ok(())
 }
@@ -61,24 +62,24 @@ fn seconds_between(from: &DrawnAtom, to: &DrawnAtom) -> u64
     60 + (across + along) / 10
 }
 
-/// Puts the records of where unit `n` spends its free time behind the text.
+/// Puts the records of where unit `n` spends its free time after the text.
 pub(crate) fn push_locations(text: &mut Vec<u8>, units: u64, n: u64) -> Result<(), AllocError>
-    requires units { units < 1000 }
-    requires unit { n < 1000 }
-    ensures { IfOk result (λ _. text.new.items ≡ text.old.items ++ location_lines units n) }
+    requires units { units ≤ MOST_MADE_UNITS }
+    requires unit { n ≤ units }
+    ensures { IfOk result (λ _. text.new.items ≡ text.old.items ++ location_rows units n) }
 {
     push_at(text, n, n, 700)?;
     push_at(text, n, n + units, 300)
 }
 
 fn push_at(text: &mut Vec<u8>, n: u64, j: u64, thousandths: u64) -> Result<(), AllocError>
-    ensures { IfOk result (λ _. text.new.items ≡ text.old.items ++ at_line n j thousandths) }
+    ensures { IfOk result (λ _. text.new.items ≡ text.old.items ++ at_row n j thousandths) }
 {
     text.extend_from_slice(b"at,")?;
     push_unit_name(text, n)?;
     text.push(b',')?;
     push_atom_name(text, j)?;
-    push_number(text, thousandths)?;
+    push_number_field(text, thousandths)?;
     text.push(b'\n')?;
     Ok(())
 }
@@ -101,19 +102,4 @@ fn push_atom_name(text: &mut Vec<u8>, j: u64) -> Result<(), AllocError>
 {
     text.push(b'A')?;
     push_decimal(text, j)
-}
-
-/// Puts a comma and a number behind the text.
-fn push_number(text: &mut Vec<u8>, number: u64) -> Result<(), AllocError>
-    ensures { IfOk result (λ _. text.new.items ≡ text.old.items ++ number_field number) }
-{
-    text.push(b',')?;
-    push_decimal(text, number)
-}
-
-fn push_decimal(text: &mut Vec<u8>, number: u64) -> Result<(), AllocError>
-    ensures { IfOk result (λ _. text.new.items ≡ text.old.items ++ decimal number) }
-{
-    let mut buffer = Buffer::new();
-    text.extend_from_slice(buffer.format(number).as_bytes())
 }

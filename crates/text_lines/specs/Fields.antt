@@ -1,5 +1,9 @@
--- Whole numbers in a text: a field, and a row of two fields.
+-- Fields after commas, and a row of two fields.
 use Rattle.std.specs.Prelude.{ℕ, List, ◌++◌, codes, decimal}
+
+-- a comma and a text
+abbrev pub text_field : List ℕ → List ℕ
+text_field text = codes "," ++ text
 
 -- a comma and a number
 abbrev pub number_field : ℕ → List ℕ
