@@ -11,9 +11,9 @@ import sys
 
 TOP = pathlib.Path(__file__).resolve().parent.parent
 CARRIER = re.compile(r"`([A-Za-z_][\w:]*)`(?: \((`\w+`(?:, `\w+`)*)\))?")
-FUNCTION = re.compile(r"^( *)(?:pub )?(?:final )?fn (\w+)", re.MULTILINE)
+FUNCTION = re.compile(r"^( *)(pub )?(?:final )?fn (\w+)", re.MULTILINE)
 TYPE = re.compile(r"^pub (?:struct|enum|trait) (\w+)", re.MULTILINE)
-IMPL = re.compile(r"^(?:impl|pub trait)\b[^\n{]*?\b(\w+)(?:<[^\n{]*>)?(?:: [^\n{]*)? \{", re.MULTILINE)
+OWNER = re.compile(r"^(?:impl(?:<[^>]*>)?|(pub trait)) (?:[^\n{]* for )?(\w+)", re.MULTILINE)
 
 
 def sources_of(crate):
@@ -28,16 +28,18 @@ def contract_from(text, start):
 
 
 def calls_of(crate):
-    """Each call by its name, and by its type's name too, with the names of its clauses ('' for one without a name)."""
+    """Each public call, by its type's name and its own, with the names of its clauses ('' for one without a name)."""
     calls = {}
     for text in sources_of(crate):
-        impls = [(found.start(), found.group(1)) for found in IMPL.finditer(text)]
+        owners = [(found.start(), found.group(1), found.group(2)) for found in OWNER.finditer(text)]
         for found in FUNCTION.finditer(text):
+            indent, is_public, name = found.groups()
+            owner = [one for one in owners if one[0] < found.start()][-1:] if indent else []
+            if not is_public and not any(is_trait for _, is_trait, _ in owner):
+                continue
             clauses = re.findall(r"^\s*ensures ?(\w*) ?\{", contract_from(text, found.start()), re.MULTILINE)
-            owner = [name for start, name in impls if start < found.start()][-1:] if found.group(1) else []
-            names = [found.group(2)] + [f"{name}::{found.group(2)}" for name in owner]
-            for name in names:
-                calls.setdefault(name, set()).update(clauses)
+            full = f"{owner[0][2]}::{name}" if owner else name
+            calls.setdefault(full, set()).update(clauses)
         for found in TYPE.finditer(text):
             calls.setdefault(found.group(1), {""})
     return calls
