@@ -10,9 +10,8 @@ use Rattle.fixed_interval.proofs.Rounding.{div_ceil-le, div_ceil-positive, facto
 use Rattle.fixed_interval.proofs.Shifts.{encloses_push}
 use Rattle.hyper_model.specs.Sums.{sum_below}
 use Rattle.hyper_model.proofs.Sums.{place_le_sum, positive_place, sum-constant, sum-le, sum-scaled}
-use Rattle.rate_matrix.specs.Elimination.{Entries, total_below}
+use Rattle.rate_matrix.specs.Elimination.{AreSoundEntries, Entries, total_below}
 use Rattle.rate_matrix.specs.Weights.{inflow_ends, weight_of}
-use Rattle.state_reduction.specs.Laws.{AreSoundEntries}
 use Rattle.back_solve.specs.Laws.{NextWeightFits}
 
 -- each weight of a list of weights

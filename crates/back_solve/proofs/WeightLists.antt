@@ -9,10 +9,9 @@ use Rattle.fixed_interval.specs.WeightList.{EnclosesAll, IsWeight, PushesShifted
 use Rattle.fixed_interval.proofs.Shifts.{IsWeight-shifted, encloses_one, encloses_pushed, shifted-ordered}
 use Rattle.hyper_model.specs.Solutions.{mass_in}
 use Rattle.hyper_model.proofs.Sums.{sum-same}
-use Rattle.rate_matrix.specs.Elimination.{Entries, HoldsAll, SameEntries, total_below}
+use Rattle.rate_matrix.specs.Elimination.{AreSoundEntries, Entries, HoldsAll, SameEntries, total_below}
 use Rattle.rate_matrix.specs.Weights.{AreWeightsOf, inflow_ends, weight_of}
-use Rattle.state_reduction.specs.Laws.{AreSoundEntries}
-use Rattle.state_reduction.proofs.Sameness.{leaving-same}
+use Rattle.rate_matrix.proofs.Sameness.{leaving-same}
 use Rattle.back_solve.specs.Laws.{AreWeightsDetermined, DependOnEntries, WeightsEnclose, WeightsInRange}
 use Rattle.back_solve.proofs.NextWeight.{is_ready, weight_of-encloses, weight_of-ordered}
 

@@ -3,9 +3,8 @@ use Rattle.std.specs.Prelude.{◌≡◌, ℕ, ◌^◌, ◌<◌, ◌≤◌, List,
 use Rattle.fixed_interval.specs.Ends.{Ends}
 use Rattle.fixed_interval.specs.WeightList.{EnclosesAll, IsWeight}
 use Rattle.hyper_model.specs.Solutions.{mass_in}
-use Rattle.rate_matrix.specs.Elimination.{Entries, HoldsAll, SameEntries}
+use Rattle.rate_matrix.specs.Elimination.{AreSoundEntries, Entries, HoldsAll, SameEntries}
 use Rattle.rate_matrix.specs.Weights.{AreWeightsOf, weight_of}
-use Rattle.state_reduction.specs.Laws.{AreSoundEntries}
 
 -- weights of entries enclose all masses that the entries hold
 abbrev pub WeightsEnclose : Type 0

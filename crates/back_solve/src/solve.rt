@@ -7,7 +7,6 @@ ghost use Rattle.rate_matrix.specs.Weights.{AreWeightsOf, inflow_ends, weight_of
 
 use fixed_interval::{Iv, Weights, Wide};
 use rate_matrix::RateMatrix;
-use state_reduction::leaving;
 
 /// The weights of the states, from what an elimination of all but the first has left, in either form of the
 /// matrix.
@@ -43,7 +42,7 @@ fn next_weight(m: &RateMatrix, state: usize, weights: &Weights) -> Wide
 {
     let _size = m.size();
     let inflow = inflow(m, state, weights);
-    let out = leaving(m, state);
+    let out = m.total_leaving(state);
     Wide::new(inflow.lo() / out.hi(), inflow.hi().div_ceil(out.lo()))
 }
 

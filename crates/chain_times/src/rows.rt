@@ -6,7 +6,6 @@ ghost use Rattle.rate_matrix.specs.Rows.{part_in};
 use crate::refusal::TimesRefusal;
 use fixed_interval::{Iv, Wide};
 use rate_matrix::{OpenGate, RateMatrix, WordChain};
-use state_reduction::leaving;
 use std::alloc::{AllocError, Global};
 use std::thread::Threads;
 use std::time::{Clock, Instant};
@@ -78,7 +77,7 @@ fn parts_of(alloc: Global, m: &RateMatrix, state: usize) -> Result<Vec<Iv>, Allo
     ensures kept { IfOk result (λ parts. (j : ℕ) → j < state → ¬ IsKept m.now state j
         → part_in parts.items j ≡ exact_ends 0) }
 {
-    let all = leaving(m, state);
+    let all = m.total_leaving(state);
     let mut parts = Vec::new(alloc);
     for j in 0..state {
         parts.push(part_of(m, state, j, all))?;

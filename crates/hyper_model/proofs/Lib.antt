@@ -19,7 +19,7 @@ pub mod Masses
 pub mod Denominators
 pub mod MeasureWords
 pub mod OneValue
-pub mod Queue
+pub mod WaitingPlaces
 pub mod Levels
 pub mod Worked
 mod WorkedOneUnit
@@ -29,3 +29,4 @@ mod WorkedMixed
 mod WorkedAccepted
 mod WorkedGroups
 mod WorkedMeasures
+mod WorkedWaitingPlaces

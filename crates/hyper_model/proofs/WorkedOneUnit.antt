@@ -12,7 +12,7 @@ use Rattle.hyper_model.specs.Solutions.{IsSolution}
 use Rattle.hyper_model.proofs.Worked.{each_below, LiesBetween, row_of_units}
 
 -- unit A, in its atom P for all its free time, serves its own district
-abbrev one_unit : Line → ℕ → ℕ → PlanParts
+abbrev pub one_unit : Line → ℕ → ℕ → PlanParts
 one_unit waits calls service = record {
   line = waits;
   rule = rule.Given;

@@ -1,5 +1,5 @@
 -- The laws of the model, for every accepted plan. That a solution exists is `HasSolution`.
-use Rattle.std.specs.Prelude.{◌≡◌, ◌≢◌, ℕ, ◌+◌, ◌*◌, ◌^◌, ◌<◌, ◌≤◌, ◌==◌, if◌then◌else◌, List}
+use Rattle.std.specs.Prelude.{◌≡◌, ◌≢◌, ℕ, ◌+◌, ◌*◌, ◌^◌, ◌<◌, ◌≤◌, ◌==◌, if◌then◌else◌, false, List}
 use Rattle.hyper_model.specs.declared.kinds.Line.TheVariants as line
 use Rattle.hyper_model.specs.declared.kinds.Measure.{Measure}
 use Rattle.hyper_model.specs.declared.parts.PlanParts.{PlanParts}
@@ -8,7 +8,7 @@ use Rattle.hyper_model.specs.Plans.{units, service_of, all_calls, all_service, s
 use Rattle.hyper_model.specs.Words.{words, is_busy, full_word}
 use Rattle.hyper_model.specs.Rates.{leaving_rate, coming_flow, IsBalancedWord}
 use Rattle.hyper_model.specs.Solutions.{mass_in, IsSolution}
-use Rattle.hyper_model.specs.Measures.{Ratio, measure_of}
+use Rattle.hyper_model.specs.Measures.{Ratio, measure_of, is_without, IsInRange}
 
 -- in every solution each word has a mass
 abbrev pub AreWordsPositive : PlanParts → Type 0
@@ -18,6 +18,12 @@ AreWordsPositive p =
 -- and so have the waiting calls, where calls wait
 abbrev pub IsTailPositive : PlanParts → Type 0
 IsTailPositive p = (xs : List ℕ) (z : ℕ) → IsSolution p xs z → p.line ≡ line.Infinite → 1 ≤ z
+
+-- and each measure that has a value is a ratio over what is not 0
+abbrev pub HavePositiveDenominators : PlanParts → Type 0
+HavePositiveDenominators p =
+    (xs : List ℕ) (z : ℕ) → IsSolution p xs z
+    → (m : Measure) → IsInRange p m → is_without p m ≡ false → 0 < (measure_of p (mass_in xs) z m).denominator
 
 -- any two solutions are proportional
 abbrev pub AreWordsProportional : PlanParts → Type 0

@@ -2,7 +2,7 @@
 //! Research, chapter 5). Their calls answer nothing: each one's contract is a theorem on the plan.
 ghost use Rattle.hyper_model.specs.Plans.{IsAccepted};
 ghost use Rattle.hyper_model.specs.Solutions.{HasSolution};
-ghost use Rattle.hyper_model.specs.Laws.{AreWordsPositive, IsTailPositive, AreWordsProportional, IsTailProportional, HaveOneValue, TailLaw, LevelsLaw};
+ghost use Rattle.hyper_model.specs.Laws.{AreWordsPositive, IsTailPositive, HavePositiveDenominators, AreWordsProportional, IsTailProportional, HaveOneValue, TailLaw, LevelsLaw};
 
 use crate::Plan;
 
@@ -22,10 +22,12 @@ pub fn law_existence(plan: &Plan)
     law_accepted(plan);
 }
 
-/// In every solution each word has a mass, and so have the waiting calls where calls wait.
+/// In every solution each word has a mass, and so have the waiting calls if calls wait. So each measure
+/// that has a value is a ratio whose denominator is not 0.
 pub fn law_positive(plan: &Plan)
     ensures words { AreWordsPositive plan.now }
     ensures waiting { IsTailPositive plan.now }
+    ensures measures { HavePositiveDenominators plan.now }
 {
     law_accepted(plan);
 }

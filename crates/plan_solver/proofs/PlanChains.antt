@@ -19,15 +19,14 @@ use Rattle.busy_words.specs.Order.{WordOrder}
 use Rattle.busy_words.specs.WeightParts.{EnclosesSolution, IsOrderOf, places, places_on, tail_masses}
 use Rattle.busy_words.proofs.Ordering.{last_word}
 use Rattle.rate_matrix.specs.Bands.{BandedRates, cap, entry}
-use Rattle.rate_matrix.specs.Elimination.{HoldsAll, SameEntries, left_after}
+use Rattle.rate_matrix.specs.Elimination.{AreSoundEntries, HoldsAll, SameEntries, left_after}
 use Rattle.rate_matrix.specs.Weights.{AreWeightsOf}
 use Rattle.rate_matrix.specs.WordChains.{by_rank, word_rates, word_top}
 use Rattle.rate_matrix.proofs.ExactMatrix.{scale_wide}
 use Rattle.rate_matrix.proofs.WordChains.{chain_balance, chain_descends}
-use Rattle.state_reduction.specs.Laws.{AreSoundEntries, Begins}
+use Rattle.state_reduction.specs.Laws.{Begins}
 use Rattle.state_reduction.proofs.Runs.{apart_rate, begins_sound, holds_every_solution}
-use Rattle.state_reduction.proofs.Sameness.{is_determined}
-use Rattle.state_reduction.proofs.Soundness.{stays_sound}
+use Rattle.state_reduction.proofs.Soundness.{is_determined, stays_sound}
 use Rattle.back_solve.proofs.NextWeight.{weight_at}
 use Rattle.back_solve.proofs.WeightLists.{depend_on_entries, weights_enclose, weights_in_range}
 use Rattle.queue_tail.specs.Tail.{IsTailOf, tail_weight}

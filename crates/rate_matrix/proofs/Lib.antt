@@ -3,6 +3,8 @@ pub mod BandLemmas
 pub mod RowFilling
 pub mod ExactMatrix
 pub mod Raising
+pub mod Sameness
+pub mod Totals
 pub mod RowUpdates
 pub mod SlicePlaces
 pub mod RowsOfBand

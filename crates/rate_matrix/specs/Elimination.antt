@@ -68,6 +68,12 @@ pub record IsWithin (size : ℕ) (caps : ℕ → ℕ) (entries : Entries) : Type
   pub ordered : (i j : ℕ) → i < size → j < size → i ≢ j → (entries i j).lo ≤ (entries i j).hi
   pub capped : (i j : ℕ) → i < size → j < size → i ≢ j → (entries i j).hi ≤ caps i
 
+-- the ends are in order and under the caps, and each state but the first has entries to earlier states that sum
+-- to at least this much
+pub record AreSoundEntries (size least : ℕ) (caps : ℕ → ℕ) (entries : Entries) : Type 0 where
+  pub within : IsWithin size caps entries
+  pub live : IsLive size least entries
+
 -- state m is in balance with the states before it, as far as the intervals tell: what must leave it is at most
 -- what may come, and what must come is at most what may leave
 pub record HoldsAt (entries : Entries) (y : ℕ → ℕ) (m : ℕ) : Type 0 where

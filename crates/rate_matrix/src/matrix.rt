@@ -1,9 +1,10 @@
-ghost use Rattle.std.specs.Prelude.{◌≡◌, ◌≢◌, ℕ, ◌-◌, ◌^◌, ◌<◌, ◌≤◌, true};
+ghost use Rattle.std.specs.Prelude.{◌≡◌, ◌≢◌, ℕ, ◌-◌, ◌*◌, ◌^◌, ◌<◌, ◌≤◌, true};
 ghost use Rattle.fixed_interval.specs.Ends.{Ends};
+ghost use Rattle.rate_matrix.specs.Elimination.{total_below};
 ghost use Rattle.rate_matrix.specs.Bands.{HasSameFrame, IsKept, IsSound, band_of, cap, entry, has_column, outflow, parts_matrix};
 
 use crate::band::Band;
-use fixed_interval::Iv;
+use fixed_interval::{Iv, Wide};
 use std::marker::Model;
 
 /// The rates between the states of a chain, in intervals and in one scale, while the states are eliminated
@@ -120,6 +121,24 @@ impl RateMatrix {
         ensures capped { i ≢ j → result.hi ≤ cap self.now i }
     {
         self.bands[self.levels[i]].entry(i, j)
+    }
+
+    /// What leaves a state for the states before it: the sum of its entries to them.
+    ///
+    /// Its low end is at least 2^26, but for the first state, which nothing leaves so.
+    pub fn total_leaving(&self, state: usize) -> Wide
+        requires { state < self.now.size }
+        ensures sum { result ≡ total_below (entry self.now state) state }
+        ensures least { 0 < state → 2 ^ 26 ≤ result.lo }
+        ensures ordered { result.lo ≤ result.hi }
+        ensures in_range { result.hi ≤ state * 2 ^ 62 }
+    {
+        let _size = self.size();
+        let mut sum = Wide::new(0, 0);
+        for j in 0..state {
+            sum = sum.plus(self.entry(state, j).wide());
+        }
+        sum
     }
 
     /// Counts the last state that is alive as eliminated.

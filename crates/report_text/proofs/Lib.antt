@@ -1,4 +1,4 @@
 -- lemmas, each file on one subject
-pub mod GroupLines
+pub mod GroupRows
 pub mod PlanLists
-pub mod ItemLines
+pub mod ItemRows

@@ -1,27 +1,30 @@
--- The fields of a measure's line before its ends: its kind, and the names of its unit and its atom.
-use Rattle.std.specs.Prelude.{ℕ, List, ◌++◌, codes}
+-- The fields of a measure's row before its ends: its word, and the names of what it speaks of.
+use Rattle.std.specs.Prelude.{ℕ, List, [], ◌++◌}
+use Rattle.text_lines.specs.Fields.{text_field}
+use Rattle.hyper_model.specs.Measures.{subject_of, word_of}
+use Rattle.hyper_model.specs.Plans.{atom_name, unit_name}
 use Rattle.hyper_model.specs.declared.kinds.Measure.{Measure}
-use Rattle.hyper_model.specs.declared.kinds.Measure.TheVariants as measure
+use Rattle.hyper_model.specs.declared.kinds.Subject.{Subject}
+use Rattle.hyper_model.specs.declared.kinds.Subject.TheVariants as subject
 use Rattle.hyper_model.specs.declared.parts.PlanParts.{PlanParts}
-use Rattle.hyper_model.specs.Plans.{unit_at, atom_at}
 
-abbrev pub unit_name : PlanParts → ℕ → List ℕ
-unit_name p n = (unit_at p n).name
+-- a comma and a name
+abbrev pub unit_field : PlanParts → ℕ → List ℕ
+unit_field p n = text_field (unit_name p n)
 
-abbrev pub atom_name : PlanParts → ℕ → List ℕ
-atom_name p j = (atom_at p j).name
+abbrev pub atom_field : PlanParts → ℕ → List ℕ
+atom_field p j = text_field (atom_name p j)
+
+-- the names of what is spoken of; of a district, its unit's
+abbrev pub subject_fields : PlanParts → Subject → List ℕ
+subject_fields p subject.Region = []
+subject_fields p (subject.Unit n) = unit_field p n
+subject_fields p (subject.Atom j) = atom_field p j
+subject_fields p (subject.UnitAndAtom n j) = unit_field p n ++ atom_field p j
+subject_fields p (subject.District n) = unit_field p n
+
+abbrev pub label_of : PlanParts → List ℕ → Subject → List ℕ
+label_of p word about = word ++ subject_fields p about
 
 abbrev pub label_bytes : PlanParts → Measure → List ℕ
-label_bytes p measure.Loss = codes "loss"
-label_bytes p measure.Delay = codes "delay"
-label_bytes p measure.Queue = codes "queue"
-label_bytes p measure.Wait = codes "wait"
-label_bytes p (measure.Workload n) = codes "workload," ++ unit_name p n
-label_bytes p (measure.Dispatch n j) = codes "dispatch," ++ unit_name p n ++ codes "," ++ atom_name p j
-label_bytes p measure.Interdistrict = codes "interdistrict"
-label_bytes p (measure.InterdistrictUnit n) = codes "interdistrict-unit," ++ unit_name p n
-label_bytes p (measure.InterdistrictDistrict n) = codes "interdistrict-district," ++ unit_name p n
-label_bytes p measure.Travel = codes "travel"
-label_bytes p (measure.TravelAtom j) = codes "travel-atom," ++ atom_name p j
-label_bytes p (measure.TravelUnit n) = codes "travel-unit," ++ unit_name p n
-label_bytes p (measure.TravelDistrict n) = codes "travel-district," ++ unit_name p n
+label_bytes p m = label_of p (word_of m) (subject_of m)

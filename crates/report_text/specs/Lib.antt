@@ -1,7 +1,6 @@
-pub mod Numbers
 pub mod Labels
 pub mod Heads
 pub mod Lists
-pub mod Lines
+pub mod Rows
 pub mod Reports
 pub mod TooWide

@@ -1,7 +1,7 @@
 use hyper_model::Measure;
 
-/// How far apart the two ends of a measure may lie, in units of its last printed digit. Where no width
-/// is given, any distance will do.
+/// How far apart the two ends of a measure may lie, in units of its last printed digit. If no width is
+/// given, any distance will do.
 #[derive(Clone, Copy, Debug, PartialEq, Eq)]
 pub struct Widths {
     /// Of shares and of the mean number of waiting calls, in millionths.

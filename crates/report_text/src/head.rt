@@ -1,15 +1,15 @@
 ghost use Rattle.std.specs.Prelude.{◌≡◌, ◌++◌, IfOk};
-ghost use Rattle.report_text.specs.Heads.{head_bytes, line_line, size_lines, rate_lines, count_line};
+ghost use Rattle.report_text.specs.Heads.{head_bytes, line_row, rate_rows, size_rows};
 
-use crate::number::push_decimal;
 use hyper_model::{Line, Plan};
 use std::alloc::AllocError;
+use text_lines::push_count;
 
-/// Puts the first six lines of a plan's report behind the text: the version of the text's form, what
+/// Puts the first six rows of a plan's report after the text: the version of the text's form, what
 /// becomes of a call while all units are busy, how many units and atoms there are, and the rates of all
 /// calls and of all service per period.
 ///
-/// Where memory ends, a part of them stands there.
+/// If memory ends, a part of them stands there; so it is with all that is put after a text.
 pub fn push_head(text: &mut Vec<u8>, plan: &Plan) -> Result<(), AllocError>
     ensures { IfOk result (λ _. text.new.items ≡ text.old.items ++ head_bytes plan.now) }
 {
@@ -20,7 +20,7 @@ pub fn push_head(text: &mut Vec<u8>, plan: &Plan) -> Result<(), AllocError>
 }
 
 fn push_line(text: &mut Vec<u8>, line: Line) -> Result<(), AllocError>
-    ensures { IfOk result (λ _. text.new.items ≡ text.old.items ++ line_line line) }
+    ensures { IfOk result (λ _. text.new.items ≡ text.old.items ++ line_row line) }
 {
     match line {
         Line::Zero => text.extend_from_slice(b"line,zero\n"),
@@ -29,25 +29,15 @@ fn push_line(text: &mut Vec<u8>, line: Line) -> Result<(), AllocError>
 }
 
 fn push_sizes(text: &mut Vec<u8>, plan: &Plan) -> Result<(), AllocError>
-    ensures { IfOk result (λ _. text.new.items ≡ text.old.items ++ size_lines plan.now) }
+    ensures { IfOk result (λ _. text.new.items ≡ text.old.items ++ size_rows plan.now) }
 {
     push_count(text, b"units", plan.units() as u64)?;
     push_count(text, b"atoms", plan.atoms() as u64)
 }
 
 fn push_rates(text: &mut Vec<u8>, plan: &Plan) -> Result<(), AllocError>
-    ensures { IfOk result (λ _. text.new.items ≡ text.old.items ++ rate_lines plan.now) }
+    ensures { IfOk result (λ _. text.new.items ≡ text.old.items ++ rate_rows plan.now) }
 {
     push_count(text, b"calls", u64::from(plan.calls()))?;
     push_count(text, b"service", u64::from(plan.service()))
-}
-
-fn push_count(text: &mut Vec<u8>, word: &[u8], number: u64) -> Result<(), AllocError>
-    ensures { IfOk result (λ _. text.new.items ≡ text.old.items ++ count_line word.now number) }
-{
-    text.extend_from_slice(word)?;
-    text.push(b',')?;
-    push_decimal(text, number)?;
-    text.push(b'\n')?;
-    Ok(())
 }

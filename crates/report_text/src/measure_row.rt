@@ -1,37 +1,23 @@
 ghost use Rattle.std.specs.Prelude.{◌≡◌, ◌++◌, IfOk};
 ghost use Rattle.hyper_model.specs.Measures.{IsInRange};
-ghost use Rattle.report_text.specs.Numbers.{IsScale, ends_bytes};
-ghost use Rattle.report_text.specs.Lines.{found_bytes, measure_line};
+ghost use Rattle.text_lines.specs.Fractions.{IsScale};
+ghost use Rattle.report_text.specs.Rows.{found_bytes, measure_row};
 
-use crate::{push_label, push_number};
+use crate::push_label;
 use hyper_model::{Enclosed, Found, Plan, scale};
 use std::alloc::AllocError;
+use text_lines::push_ends;
 
-/// Puts the line of a measure behind the text: its label, and its low and high end, or `none`.
-///
-/// Where memory ends, a part of the line stands there.
+/// Puts the row of a measure after the text: its label, and its low and high end, or `none`.
 pub fn push_measure(text: &mut Vec<u8>, plan: &Plan, item: Enclosed) -> Result<(), AllocError>
     requires { IsInRange plan.now item.measure }
-    ensures { IfOk result (λ _. text.new.items ≡ text.old.items ++ measure_line plan.now item) }
+    ensures { IfOk result (λ _. text.new.items ≡ text.old.items ++ measure_row plan.now item) }
 {
-    push_label(text, plan, item.measure)?;
+    push_label(text, plan, item.measure.word(), item.measure.subject())?;
     text.push(b',')?;
     push_found(text, item.found, scale(item.measure))?;
     text.push(b'\n')?;
     Ok(())
-}
-
-/// Puts two ends behind the text, with a comma between them, as in `0.333333,0.333334`. They are in
-/// thousandths (`scale` 1000) or in millionths (1,000,000).
-///
-/// Where memory ends, a part of them stands there.
-pub fn push_ends(text: &mut Vec<u8>, lo: u64, hi: u64, scale: u32) -> Result<(), AllocError>
-    requires { IsScale scale }
-    ensures { IfOk result (λ _. text.new.items ≡ text.old.items ++ ends_bytes lo hi scale) }
-{
-    push_number(text, lo, scale)?;
-    text.push(b',')?;
-    push_number(text, hi, scale)
 }
 
 fn push_found(text: &mut Vec<u8>, found: Found, scale: u32) -> Result<(), AllocError>

@@ -1,20 +1,19 @@
-ghost use Rattle.std.specs.Prelude.{◌≡◌, ◌+◌, ◌<◌, ◌++◌, ℕ, if◌then◌else◌, [], All, length, IfOk, codes};
+ghost use Rattle.std.specs.Prelude.{◌≡◌, ◌+◌, ◌<◌, ◌++◌, if◌then◌else◌, [], All, length, IfOk, codes};
 ghost use Rattle.std.specs.List.{flat_map, list_all};
 ghost use Rattle.hyper_model.specs.Groups.{groups_from, groups_in};
 ghost use Rattle.hyper_model.specs.Plans.{units, atoms, are_single, IsAccepted};
-ghost use Rattle.report_text.specs.Labels.{atom_name};
-ghost use Rattle.report_text.specs.Lists.{all_list_lines, list_line, list_lines};
+ghost use Rattle.report_text.specs.Labels.{atom_field};
+ghost use Rattle.report_text.specs.Lists.{all_list_rows, list_row, list_rows};
 
-use crate::labels::{push_atom_label, push_unit_label};
-use hyper_model::{Lists, Plan};
+use crate::labels::{push_atom, push_unit};
+use hyper_model::{Lists, Plan, law_accepted};
 use std::alloc::AllocError;
 
-/// Puts the lines of all atoms' preference lists behind the text, in the order of the atoms.
+/// Puts the rows of all atoms' preference lists after the text, in the order of the atoms.
 pub(crate) fn push_lists(text: &mut Vec<u8>, plan: &Plan) -> Result<(), AllocError>
-    ensures { IfOk result (λ _. text.new.items ≡ text.old.items ++ all_list_lines plan.now) }
+    ensures { IfOk result (λ _. text.new.items ≡ text.old.items ++ all_list_rows plan.now) }
 {
-    // Asked for what it says of the plan: it is accepted, so its lists have its own units.
-    let _calls = plan.calls();
+    law_accepted(plan);
     for j in 0..plan.atoms() {
         push_list(text, plan, j as u16)?;
     }
@@ -24,7 +23,7 @@ pub(crate) fn push_lists(text: &mut Vec<u8>, plan: &Plan) -> Result<(), AllocErr
 fn push_list(text: &mut Vec<u8>, plan: &Plan, j: u16) -> Result<(), AllocError>
     requires accepted { IsAccepted plan.now }
     requires atom { j < atoms plan.now }
-    ensures { IfOk result (λ _. text.new.items ≡ text.old.items ++ list_lines plan.now j) }
+    ensures { IfOk result (λ _. text.new.items ≡ text.old.items ++ list_rows plan.now j) }
 {
     let lists = plan.lists();
     let atom = usize::from(j);
@@ -42,7 +41,7 @@ fn is_single(lists: &Lists, atom: usize) -> bool
     requires { atom < length lists.now.rows }
     ensures { result ≡ are_single (groups_in lists.now atom) }
 {
-    let _members = lists.list(atom);
+    let _list = lists.list(atom);
     all_begin(lists.later_begins(atom))
 }
 
@@ -52,22 +51,22 @@ fn all_begin(begins: &[bool]) -> bool
     begins.iter().all(|begin| *begin)
 }
 
-/// Puts the line of a list whose groups have one unit each.
+/// Puts the row of a list whose groups have one unit each.
 fn push_prefer(text: &mut Vec<u8>, plan: &Plan, j: u16, members: &[u8]) -> Result<(), AllocError>
     requires atom { j < atoms plan.now }
     requires units { All (λ n. n < units plan.now) members.now }
     ensures { IfOk result (λ _.
-        text.new.items ≡ text.old.items ++ list_line plan.now (codes "prefer") j members.now) }
+        text.new.items ≡ text.old.items ++ list_row plan.now (codes "prefer") j members.now) }
 {
-    push_atom_label(text, b"prefer,", plan, j)?;
+    push_first(text, b"prefer", plan, j)?;
     for n in members {
-        push_unit_label(text, b",", plan, *n)?;
+        push_unit(text, plan, *n)?;
     }
     text.push(b'\n')?;
     Ok(())
 }
 
-/// Puts a line for each group. Of each unit but the first, `begins` tells whether a group begins with
+/// Puts a row for each group. Of each unit but the first, `begins` says whether a group begins with
 /// it.
 fn push_groups(
     text: &mut Vec<u8>,
@@ -81,28 +80,38 @@ fn push_groups(
     requires one_each { length begins.now + 1 ≡ length members.now }
     requires units { All (λ n. n < units plan.now) members.now }
     ensures { IfOk result (λ _. text.new.items ≡ text.old.items
-        ++ flat_map (list_line plan.now (codes "group") j) (groups_from members.now begins.now)) }
+        ++ flat_map (list_row plan.now (codes "group") j) (groups_from members.now begins.now)) }
 {
-    push_atom_label(text, b"group,", plan, j)?;
-    push_unit_label(text, b",", plan, members[0])?;
+    push_first(text, b"group", plan, j)?;
+    push_unit(text, plan, members[0])?;
     for place in 1..members.len() {
         push_break(text, plan, j, begins[place - 1])?;
-        push_unit_label(text, b",", plan, members[place])?;
+        push_unit(text, plan, members[place])?;
     }
     text.push(b'\n')?;
     Ok(())
 }
 
-/// Where a group begins, ends the line and starts the next one.
+/// If a group begins, ends the row and starts the next one.
 fn push_break(text: &mut Vec<u8>, plan: &Plan, j: u16, begins: bool) -> Result<(), AllocError>
     requires { j < atoms plan.now }
     ensures { IfOk result (λ _. text.new.items
         ≡ text.old.items
-        ++ (if begins then codes "\n" ++ (codes "group," ++ atom_name plan.now j) else [])) }
+        ++ (if begins then codes "\n" ++ (codes "group" ++ atom_field plan.now j) else [])) }
 {
     if !begins {
         return Ok(());
     }
     text.push(b'\n')?;
-    push_atom_label(text, b"group,", plan, j)
+    push_first(text, b"group", plan, j)
+}
+
+/// Puts the first fields of a row: a word, and the name of atom j.
+fn push_first(text: &mut Vec<u8>, word: &[u8], plan: &Plan, j: u16) -> Result<(), AllocError>
+    requires { j < atoms plan.now }
+    ensures { IfOk result (λ _.
+        text.new.items ≡ text.old.items ++ (word.now ++ atom_field plan.now j)) }
+{
+    text.extend_from_slice(word)?;
+    push_atom(text, plan, j)
 }

@@ -1,13 +1,13 @@
 ghost use Rattle.std.specs.Prelude.{◌≡◌, ◌++◌, if◌then◌else◌, [], All, None, IfOk, IfErr, OnOk};
 ghost use Rattle.std.specs.List.{flat_map};
 ghost use Rattle.hyper_model.specs.Measures.{IsInRange};
-ghost use Rattle.report_text.specs.Lists.{all_list_lines};
-ghost use Rattle.report_text.specs.Lines.{measure_line};
+ghost use Rattle.report_text.specs.Lists.{all_list_rows};
+ghost use Rattle.report_text.specs.Rows.{measure_row};
 ghost use Rattle.report_text.specs.Reports as spec;
-ghost use Rattle.report_text.specs.Reports.{printed, report_bytes};
+ghost use Rattle.report_text.specs.Reports.{printed_items, report_bytes};
 ghost use Rattle.report_text.specs.TooWide.{first_wide, EndsAt};
 
-use crate::preference_lines::push_lists;
+use crate::preference_rows::push_lists;
 use crate::width::{check_widths, is_printed};
 use crate::{ReportEnd, Widths, push_head, push_measure};
 use hyper_model::{Enclosed, Enclosures, Plan};
@@ -16,8 +16,8 @@ use std::alloc::{AllocError, Global};
 /// The report of a plan's measures, in the order of the list, or its summary, which has the head and the
 /// measures of the whole region.
 ///
-/// There is none where the ends of a printed measure lie further apart than was asked: the first such
-/// measure is told.
+/// There is none if the ends of a printed measure lie further apart than was asked: the first such
+/// measure is reported.
 pub fn report(
     alloc: Global,
     plan: &Plan,
@@ -55,10 +55,10 @@ fn report_text(
     Ok(text)
 }
 
-/// Puts the lines of the preference lists, which a summary does not have.
+/// Puts the rows of the preference lists, which a summary does not have.
 fn push_preferences(text: &mut Vec<u8>, plan: &Plan, summary: bool) -> Result<(), AllocError>
     ensures { IfOk result (λ _.
-        text.new.items ≡ text.old.items ++ (if summary then [] else all_list_lines plan.now)) }
+        text.new.items ≡ text.old.items ++ (if summary then [] else all_list_rows plan.now)) }
 {
     if summary {
         Ok(())
@@ -67,7 +67,7 @@ fn push_preferences(text: &mut Vec<u8>, plan: &Plan, summary: bool) -> Result<()
     }
 }
 
-/// Puts the lines of the measures, of which a summary has those of the region alone.
+/// Puts the rows of the measures, of which a summary has only those of the region.
 fn push_measures(
     text: &mut Vec<u8>,
     plan: &Plan,
@@ -76,7 +76,7 @@ fn push_measures(
 ) -> Result<(), AllocError>
     requires { All (λ e. IsInRange plan.now e.measure) found.now.items }
     ensures { IfOk result (λ _. text.new.items
-        ≡ text.old.items ++ flat_map (measure_line plan.now) (printed summary found.now.items)) }
+        ≡ text.old.items ++ flat_map (measure_row plan.now) (printed_items summary found.now.items)) }
 {
     for place in 0..found.len() {
         push_printed(text, plan, found.get(place), summary)?;
@@ -93,7 +93,7 @@ fn push_printed(
     requires { IsInRange plan.now item.measure }
     ensures { IfOk result (λ _. text.new.items
         ≡ text.old.items
-        ++ (if spec.is_printed summary item then measure_line plan.now item else [])) }
+        ++ (if spec.is_printed summary item then measure_row plan.now item else [])) }
 {
     if is_printed(item.measure, summary) {
         push_measure(text, plan, item)

@@ -1,12 +1,11 @@
 ghost use Rattle.std.specs.Prelude.{◌≡◌, ◌&&◌, ◌||◌, not, true, false, None, Some, IfErr, OnOk};
 ghost use Rattle.hyper_model.specs.Enclosures.{IsOrderedEnclosed};
-ghost use Rattle.hyper_model.specs.Measures.{scale_of};
 ghost use Rattle.report_text.specs.Reports as spec;
 ghost use Rattle.report_text.specs.TooWide as limits;
 ghost use Rattle.report_text.specs.TooWide.{first_wide, is_wide, EndsAt};
 
 use crate::{ReportEnd, Widths};
-use hyper_model::{Enclosed, Enclosures, Found, Measure, scale};
+use hyper_model::{Enclosed, Enclosures, Found, Measure, Subject};
 
 /// Ends at the first printed measure that is too wide.
 pub(crate) fn check_widths(
@@ -27,7 +26,7 @@ pub(crate) fn check_widths(
 fn check_width(item: Enclosed, widths: Widths, summary: bool) -> Result<(), ReportEnd>
     requires { IsOrderedEnclosed item }
     ensures narrow { OnOk result (spec.is_printed summary item && is_wide widths item ≡ false) }
-    ensures printed { IfErr result (λ _. spec.is_printed summary item ≡ true) }
+    ensures in_print { IfErr result (λ _. spec.is_printed summary item ≡ true) }
     ensures wide { IfErr result (λ _. is_wide widths item ≡ true) }
     ensures end { IfErr result (λ end. EndsAt (Some item) end) }
 {
@@ -51,7 +50,7 @@ pub fn is_too_wide(item: Enclosed, widths: Widths) -> bool
     }
 }
 
-/// Whether the report or the summary has a line of the measure.
+/// Whether the report or the summary has a row of the measure.
 pub(crate) fn is_printed(measure: Measure, summary: bool) -> bool
     ensures { result ≡ (not summary || spec.is_of_region measure) }
 {
@@ -61,22 +60,14 @@ pub(crate) fn is_printed(measure: Measure, summary: bool) -> bool
 fn is_of_region(measure: Measure) -> bool
     ensures { result ≡ spec.is_of_region measure }
 {
-    matches!(
-        measure,
-        Measure::Loss
-            | Measure::Delay
-            | Measure::Queue
-            | Measure::Wait
-            | Measure::Interdistrict
-            | Measure::Travel
-    )
+    matches!(measure.subject(), Subject::Region)
 }
 
 /// The width asked of the measure, if any.
 fn width_of(widths: Widths, measure: Measure) -> Option<u32>
-    ensures { result ≡ limits.width_of widths (scale_of measure) }
+    ensures { result ≡ limits.width_of widths measure }
 {
-    if scale(measure) == 1000 {
+    if measure.is_time() {
         widths.time
     } else {
         widths.share

@@ -12,7 +12,7 @@ use Rattle.state_reduction.specs.Laws.{HoldsSolutions, MatricesBegin}
 use Rattle.state_reduction.proofs.Frames.{cap-same, fewer-alive, fewer-entry, fewer-frame, frame-more, frame-none, kept-same, no_part_outside}
 use Rattle.state_reduction.proofs.RaisedRows.{passed_on, raised_by-same}
 use Rattle.state_reduction.proofs.Runs.{apart_rate, holds_every_solution}
-use Rattle.state_reduction.proofs.Sameness.{part_to-same}
+use Rattle.rate_matrix.proofs.Sameness.{part_to-same}
 
 eliminated-open : (a : Entries) (caps : ℕ → ℕ) (t i j : ℕ)
     → eliminated a caps t i j ≡ raised_by (part_to a t) a caps t i j

@@ -11,10 +11,10 @@ use Rattle.hyper_model.specs.Solutions.{mass_in}
 use Rattle.hyper_model.specs.Tables.{RateTable, SolvesTable, between_states}
 use Rattle.hyper_model.proofs.Sums.{place_le_sum, sum-same, sum-scaled}
 use Rattle.hyper_model.proofs.Tables.{restricted, without_last}
-use Rattle.rate_matrix.specs.Elimination.{Entries, HoldsAt, IsExact, eliminated, left_after, total_below}
-use Rattle.state_reduction.specs.Laws.{Begins, BeginsSound, HoldsEverySolution, AreSoundEntries}
+use Rattle.rate_matrix.specs.Elimination.{AreSoundEntries, Entries, HoldsAt, IsExact, eliminated, left_after, total_below}
+use Rattle.state_reduction.specs.Laws.{Begins, BeginsSound, HoldsEverySolution}
 use Rattle.rate_matrix.proofs.Raising.{eliminated-from, eliminated-to}
-use Rattle.state_reduction.proofs.Sameness.{HoldsAll-same}
+use Rattle.rate_matrix.proofs.Sameness.{HoldsAll-same}
 use Rattle.state_reduction.proofs.Soundness.{left_after-sound}
 use Rattle.state_reduction.proofs.Enclosing.{LiesIn, eliminated-lies, holds_last, leaves_some}
 

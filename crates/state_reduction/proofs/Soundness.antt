@@ -1,9 +1,10 @@
--- After any number of eliminations the ends are in order and under the caps, and what leads to earlier states stays.
+-- After any number of eliminations the ends are in order and under the caps, and what leads to earlier states
+-- stays; and what is left depends on the entries between different states only.
 use Rattle.std.proofs.Common.{ℕ, zero, suc, ◌-◌, ◌<◌, ap, arith}
 use Rattle.fixed_interval.specs.Ends.{Ends}
-use Rattle.rate_matrix.specs.Elimination.{Entries, eliminated, left_after}
-use Rattle.state_reduction.specs.Laws.{IsRaisedFrom, AreSoundEntries, StaysSound}
-use Rattle.state_reduction.proofs.Sameness.{AreSoundEntries-same}
+use Rattle.rate_matrix.specs.Elimination.{AreSoundEntries, Entries, eliminated, left_after}
+use Rattle.rate_matrix.proofs.Sameness.{AreSoundEntries-same, eliminated-same}
+use Rattle.state_reduction.specs.Laws.{IsDetermined, IsRaisedFrom, StaysSound}
 use Rattle.state_reduction.proofs.Steps.{eliminated-within, eliminated-live, eliminated-grows}
 
 pub eliminated-sound : (size least : ℕ) (caps : ℕ → ℕ) (entries : Entries) (t : ℕ) → t < size
@@ -53,3 +54,10 @@ stays_sound size least caps entries left k some sound same =
             omega (arith, grown.raises i j row column apart, ap (λ (e : Ends). e.lo) (same.same i j row column apart));
       },
     )
+
+pub is_determined : IsDetermined
+unfolding left_after
+is_determined size a b caps limits zero some same bounds = record { same = same.same }
+is_determined size a b caps limits (suc k) some same bounds =
+    eliminated-same size (left_after a caps size k) (left_after b limits size k) caps limits (size - suc k) (omega arith)
+    (is_determined size a b caps limits k (omega arith) same bounds) bounds

@@ -3,7 +3,7 @@ use Rattle.std.specs.Prelude.{◌≡◌, ◌≢◌, ℕ, ◌-◌, ◌<◌, ◌�
 use Rattle.hyper_model.specs.Solutions.{mass_in}
 use Rattle.hyper_model.specs.Tables.{RateTable, Descends, IsTableSolution, between_states}
 use Rattle.rate_matrix.specs.Bands.{BandedRates, IsMatrixOf, cap, entry}
-use Rattle.rate_matrix.specs.Elimination.{AreOutflows, Entries, HoldsAll, IsExact, IsLive, IsWithin, SameEntries, left_after}
+use Rattle.rate_matrix.specs.Elimination.{AreOutflows, AreSoundEntries, Entries, HoldsAll, IsExact, SameEntries, left_after}
 
 -- a matrix as it is before any elimination: the rates of a table in one scale, with its outflows as caps
 pub record Begins (size scale : ℕ) (rates : RateTable) (caps : ℕ → ℕ) (entries : Entries) : Type 0 where
@@ -34,12 +34,6 @@ MatricesBegin =
 -- no low end is lower than before
 pub record IsRaisedFrom (size : ℕ) (old new : Entries) : Type 0 where
   pub raises : (i j : ℕ) → i < size → j < size → i ≢ j → (old i j).lo ≤ (new i j).lo
-
--- the ends are in order and under the caps, and each state but the first has entries to earlier states that sum
--- to at least this much
-pub record AreSoundEntries (size least : ℕ) (caps : ℕ → ℕ) (entries : Entries) : Type 0 where
-  pub within : IsWithin size caps entries
-  pub live : IsLive size least entries
 
 -- at the beginning, with the scale as this least sum
 abbrev pub BeginsSound : Type 0

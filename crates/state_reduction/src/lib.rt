@@ -13,7 +13,6 @@ mod sharing;
 mod tests;
 
 pub use elimination::step;
-pub use parts::leaving;
 pub use reduction::{reduce, reduce_packed, reduce_rows};
 pub use row::Row;
 

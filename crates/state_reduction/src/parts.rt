@@ -7,24 +7,6 @@ use crate::row::Row;
 use fixed_interval::{Iv, Wide};
 use rate_matrix::RateMatrix;
 
-/// What leaves a state for the states before it: the sum of its entries to them.
-///
-/// Its low end is at least 2^26, but for the first state, which nothing leaves so.
-pub fn leaving(m: &RateMatrix, state: usize) -> Wide
-    requires { state < m.now.size }
-    ensures sum { result ≡ total_below (entry m.now state) state }
-    ensures least { 0 < state → 2 ^ 26 ≤ result.lo }
-    ensures ordered { result.lo ≤ result.hi }
-    ensures in_range { result.hi ≤ state * 2 ^ 62 }
-{
-    let _size = m.size();
-    let mut sum = Wide::new(0, 0);
-    for j in 0..state {
-        sum = sum.plus(m.entry(state, j).wide());
-    }
-    sum
-}
-
 /// Puts into the row, for each state before this one, the part of the way out of this one that goes there.
 pub(crate) fn fill_parts(m: &RateMatrix, state: usize, scratch: &mut Row)
     requires state { state < m.now.size }
@@ -32,7 +14,7 @@ pub(crate) fn fill_parts(m: &RateMatrix, state: usize, scratch: &mut Row)
     ensures row { length scratch.new ≡ length scratch.old }
     ensures parts { (j : ℕ) → j < state → part_in scratch.new j ≡ part_to (entry m.now) state j }
 {
-    let all = leaving(m, state);
+    let all = m.total_leaving(state);
     for j in 0..state {
         let part = part_of(m, state, j, all);
         scratch.put(j, part);

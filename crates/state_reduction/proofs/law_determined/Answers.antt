@@ -1,4 +1,4 @@
-use Rattle.state_reduction.proofs.Sameness.{is_determined}
+use Rattle.state_reduction.proofs.Soundness.{is_determined}
 use Rattle.state_reduction.proofs.law_determined.Goals as goal
 
 pub returns : goal.returns

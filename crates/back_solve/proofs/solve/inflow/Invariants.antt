@@ -1,6 +1,6 @@
 use Rattle.std.proofs.Common.{◌^◌}
 use Rattle.rate_matrix.specs.Bands.{entry}
-use Rattle.state_reduction.proofs.Totals.{SumsTo}
+use Rattle.rate_matrix.proofs.Totals.{SumsTo}
 use Rattle.back_solve.proofs.Solving.{flows_into}
 use Rattle.back_solve.proofs.solve.inflow.Given as goal
 

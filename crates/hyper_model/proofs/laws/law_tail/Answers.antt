@@ -1,4 +1,4 @@
-use Rattle.hyper_model.proofs.Queue.{has_tail}
+use Rattle.hyper_model.proofs.WaitingPlaces.{has_tail}
 use Rattle.hyper_model.proofs.laws.law_tail.Goals as goal
 
 pub returns : goal.returns

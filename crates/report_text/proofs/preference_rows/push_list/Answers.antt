@@ -1,5 +1,5 @@
 use Rattle.report_text.proofs.PlanLists.{read_within}
-use Rattle.report_text.proofs.preference_lines.push_list.Goals as goal
+use Rattle.report_text.proofs.preference_rows.push_list.Goals as goal
 
 pub push_prefer-requires-clause-units : goal.push_prefer-requires-clause-units
 push_prefer-requires-clause-units c =

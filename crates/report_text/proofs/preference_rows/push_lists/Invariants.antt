@@ -1,7 +1,7 @@
 use Rattle.std.proofs.Common.{◌≡◌, ◌++◌}
 use Rattle.std.specs.List.{flat_map, range_with_len}
-use Rattle.report_text.specs.Lists.{list_lines}
-use Rattle.report_text.proofs.preference_lines.push_lists.Given as goal
+use Rattle.report_text.specs.Lists.{list_rows}
+use Rattle.report_text.proofs.preference_rows.push_lists.Given as goal
 
 abbrev pub invariant-loop-j : goal.invariant-loop-j
-invariant-loop-j l = l.text.items ≡ l.fn.text.items ++ flat_map (list_lines l.plan) (range_with_len 0 l.j)
+invariant-loop-j l = l.text.items ≡ l.fn.text.items ++ flat_map (list_rows l.plan) (range_with_len 0 l.j)

@@ -3,7 +3,7 @@ use Rattle.fixed_interval.specs.Ends.{Ends}
 use Rattle.hyper_model.proofs.Sums.{place_le_sum}
 use Rattle.rate_matrix.specs.Bands.{entry}
 use Rattle.rate_matrix.proofs.Raising.{rest-ordered}
-use Rattle.state_reduction.proofs.Totals.{part_is, rest_is}
+use Rattle.rate_matrix.proofs.Totals.{part_is, rest_is}
 use Rattle.state_reduction.proofs.parts.part_of.Goals as goal
 
 pub overflow_sub-lo : goal.overflow_sub-lo

@@ -1,10 +1,9 @@
 -- Entries that agree between different states have the same sums, parts and eliminations.
-use Rattle.std.proofs.Common.{◌≡◌, ℕ, zero, suc, ◌-◌, ◌*◌, ◌^◌, ◌<◌, sym, ap, ◌∙◌, inl, inr, arith}
+use Rattle.std.proofs.Common.{◌≡◌, ℕ, ◌*◌, ◌^◌, ◌<◌, sym, ap, ◌∙◌, inl, inr, arith}
 use Rattle.std.proofs.lemmas.Bool.{cases_lt}
 use Rattle.fixed_interval.specs.Ends.{Ends, between, share_ends}
 use Rattle.hyper_model.proofs.Sums.{sum-same}
-use Rattle.rate_matrix.specs.Elimination.{Entries, HoldsAll, HoldsAt, SameEntries, eliminated, left_after, part_to, raised, total_below, without_ends}
-use Rattle.state_reduction.specs.Laws.{IsDetermined, AreSoundEntries}
+use Rattle.rate_matrix.specs.Elimination.{AreSoundEntries, Entries, HoldsAll, HoldsAt, SameEntries, eliminated, part_to, raised, total_below, without_ends}
 use Rattle.rate_matrix.proofs.Raising.{eliminated-before, eliminated-from, eliminated-to}
 
 between-same : (a c b d : ℕ) → a ≡ c → b ≡ d → between a b ≡ between c d
@@ -54,13 +53,6 @@ eliminated-same size a b caps limits t alive same bounds = record {
         ∙ sym (eliminated-from b limits t i j (omega arith))
   ];
 }
-
-pub is_determined : IsDetermined
-unfolding left_after
-is_determined size a b caps limits zero some same bounds = record { same = same.same }
-is_determined size a b caps limits (suc k) some same bounds =
-    eliminated-same size (left_after a caps size k) (left_after b limits size k) caps limits (size - suc k) (omega arith)
-    (is_determined size a b caps limits k (omega arith) same bounds) bounds
 
 pub HoldsAt-same : (size : ℕ) (a b : Entries) (y : ℕ → ℕ) → SameEntries size a b → (m : ℕ) → m < size → HoldsAt a y m
     → HoldsAt b y m

@@ -2,7 +2,7 @@ use Rattle.std.proofs.Common.{◌≡◌, ap, arith}
 use Rattle.rate_matrix.specs.Bands.{entry}
 use Rattle.rate_matrix.specs.Elimination.{total_below}
 use Rattle.fixed_interval.specs.Ends.{Ends}
-use Rattle.state_reduction.proofs.parts.leaving.Goals as goal
+use Rattle.rate_matrix.proofs.matrix.RateMatrix.total_leaving.Goals as goal
 
 pub returns-clause-least : goal.returns-clause-least
 returns-clause-least c later =
@@ -11,7 +11,7 @@ returns-clause-least c later =
     omega (
       arith,
       ap (λ (e : Ends). e.lo) c.loop-j.invariant.is,
-      ap (λ n. (total_below (entry c.args.m.now c.args.state) n).lo) whole,
+      ap (λ n. (total_below (entry c.args.self.now c.args.state) n).lo) whole,
       sound.live.leaves c.args.state later c.requires,
       sound.scale,
     )
