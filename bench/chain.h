@@ -1,4 +1,4 @@
-// The rates of a chain, as `chain_times rates` prints them: the states and the bound on the rates out of one, then a
+// The rates of a chain, as `solve_times rates` prints them: the states and the bound on the rates out of one, then a
 // line for each rate that is not 0.
 #ifndef CHAIN_H
 #define CHAIN_H

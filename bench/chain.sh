@@ -8,7 +8,7 @@
 for name in rows dense; do
     "${CC:-gcc}" -O2 -o "$work/$name" "$bench/$name.c"
 done
-times=$(built chain_times)
+times=$(built solve_times)
 
 prepare() {
     python3 "$bench/made_plan.py" "$1" 1 >"$work/$1.csv"

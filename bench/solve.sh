@@ -9,11 +9,10 @@
 "${CC:-gcc}" -O2 -o "$work/dense" "$bench/dense.c"
 program=$(built hypercube)
 times=$(built solve_times)
-chain=$(built chain_times)
 
 prepare() {
     python3 "$bench/made_plan.py" "$1" 1 >"$work/$1.csv"
-    "$chain" rates "$work/$1.csv" >"$work/$1.rates"
+    "$times" rates "$work/$1.csv" >"$work/$1.rates"
 }
 
 runs_of() { [ "$1" -lt 12 ] && echo "$runs" || echo 1; }
@@ -24,7 +23,7 @@ whole() { python3 "$bench/whole.py" "$program" solve "$work/$1.csv" --workers "$
 
 parts_rows() {
     for workers in 1 2 4; do
-        ours=$(least 2 "$(runs_of "$1")" "$times" "$work/$1.csv" "$workers")
+        ours=$(least 2 "$(runs_of "$1")" "$times" parts "$work/$1.csv" "$workers")
         echo "$1 $workers $ours" | awk '
             { printf "%5d %7d %8.3f %8.3f %8.3f %8.3f\n", $1, $2, $3 / 1e6, $4 / 1e6, $5 / 1e6, $6 / 1e6 }'
     done

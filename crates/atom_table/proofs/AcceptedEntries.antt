@@ -5,7 +5,7 @@ use Rattle.std.specs.Option.{option_to_list}
 use Rattle.std.proofs.lemmas.Bool.Decides.{nat_tests}
 use Rattle.std.proofs.lemmas.List.{append-nil, get_or-map, length-append, length-map, map-append}
 use Rattle.std.proofs.lemmas.List.Elements.{All-get_or}
-use Rattle.hyper_model.specs.Plans.{HasAtoms, HasUnits, IsBetween, no_atom, no_unit}
+use Rattle.hyper_model.specs.Plans.{HasAtoms, HasUnits, IsBetween, calls_in, no_atom, no_unit, service_in}
 use Rattle.hyper_model.specs.declared.parts.Atom.{Atom}
 use Rattle.hyper_model.specs.declared.parts.PlanParts.{PlanParts}
 use Rattle.hyper_model.specs.declared.parts.Unit as declared_unit
@@ -14,12 +14,11 @@ use Rattle.plan_text.specs.declared.record.Record.{Record}
 use Rattle.plan_text.specs.declared.record.Record.TheVariants as rec
 use Rattle.plan_text.proofs.Over.{filter_map-push, kept-all, over-kept}
 use Rattle.atom_table.specs.Names.{is_among, place_or_zero}
-use Rattle.atom_table.specs.Entries.{Entries, HasEntries, atom_in, atom_names, atoms_in, calls_sum, entries_in, service_sum, unit_in, unit_names, units_in}
+use Rattle.atom_table.specs.Entries.{Entries, HasEntries, atom_in, atom_names, atoms_in, entries_in, unit_in, unit_names, units_in}
 use Rattle.atom_table.specs.Refusals.{atom_refusal, entries_of, none_refusal, sum_refusal, unit_refusal}
 use Rattle.atom_table.specs.declared.refusal.AtomRefusal.{AtomRefusal}
 use Rattle.atom_table.specs.declared.refusal.AtomRefusal.TheVariants.{NoCalls, RateSum, ServiceSum}
 use Rattle.atom_table.proofs.OwnNames.{AreOwn, own_none, own_push, unit_place-within}
-use Rattle.atom_table.proofs.RateSums.{sum_by-below}
 use Rattle.atom_table.proofs.StepByStep.{Passes, entries_of-ok}
 
 -- of two tests that refuse, neither holds where nothing is refused
@@ -34,7 +33,7 @@ record AreFew (most count : ℕ) (names : List (List ℕ)) : Type 0 where
   few : count ≤ most
   own : AreOwn names
 
--- a unit that is not refused behind others
+-- a unit that is not refused after others
 unit_fits : (units : List declared_unit.Unit) (r : Record) (unit : declared_unit.Unit) → unit_in r ≡ Some unit
     → unit_refusal units r ≡ None → (is_among (unit_names units) unit.name ≡ false) × (length units < 12)
 unit_fits units (rec.UnitIs at name rate) unit is h =
@@ -133,8 +132,8 @@ has_entries records passes =
 
 -- the sums are within their limits
 sums_within : (units : List declared_unit.Unit) (atoms : List Atom) → sum_refusal units atoms ≡ None
-    → IsBetween 1 1000000 (calls_sum atoms) × (service_sum units ≤ 1000000)
-sums_within units atoms h = by (calls_sum atoms) (service_sum units) h
+    → IsBetween 1 1000000 (calls_in atoms) × (service_in units ≤ 1000000)
+sums_within units atoms h = by (calls_in atoms) (service_in units) h
   where
     by : (calls service : ℕ) → (if calls == 0 then Some NoCalls else if nat_lt 1000000 calls then Some (RateSum calls)
         else if nat_lt 1000000 service then Some (ServiceSum service) else None) ≡ None
@@ -195,7 +194,7 @@ has_units records entries p values given same =
       named = λ n m l h e. shown.units.own n m (omega (arith, size)) (omega (arith, size))
           (name_at_unit (units_in records) n l ∙ e ∙ sym (name_at_unit (units_in records) m h));
       rates = λ n l. All-get_or (λ (u : declared_unit.Unit). IsBetween 1 1000000 u.rate) (units_in records) n no_unit l rates;
-      service = omega (arith, sums.1, sum_by-below (λ (u : declared_unit.Unit). u.rate) (units_in records) no_unit);
+      service = sums.1;
     })
 
 -- and so are the atoms
@@ -224,5 +223,5 @@ has_atoms records entries p values given same_units same_atoms =
             district = All-get_or (λ (a : Atom). a.district < length (units_in records)) (atoms_in (units_in records) records) j
                 no_atom l shown.districts;
           };
-      calls = rw (sym (sum_by-below (λ (a : Atom). a.rate) (atoms_in (units_in records) records) no_atom)) sums.0;
+      calls = sums.0;
     })

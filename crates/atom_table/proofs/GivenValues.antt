@@ -11,7 +11,7 @@ use Rattle.std.proofs.lemmas.List.Folds.{find-append}
 use Rattle.std.proofs.lemmas.List.FromFn.{get_or-map-range_with_len, length-map-range_with_len}
 use Rattle.hyper_model.specs.Grid.{cell, zero_grid}
 use Rattle.hyper_model.proofs.Grids.{place_within}
-use Rattle.atom_table.specs.Pairs.{Given, PairTable, has_value, is_known, pair_table_of, table_of, twice, value_of, with_given, with_value}
+use Rattle.atom_table.specs.Pairs.{Given, PairTable, given_for, has_value, is_known, pair_of, pair_table_of, table_of, twice, value_of, with_given, with_value}
 use Rattle.atom_table.proofs.FirstBelow.{find-same}
 
 -- a list that has f k at each place k
@@ -27,7 +27,7 @@ listed_at : {X : Type 0} (f : ℕ → X) (n k : ℕ) (d : X) → k < n → get_o
 listed_at f n k d lt = get_or-map-range_with_len f 0 n k k d lt (omega arith)
 
 -- a value at place k, where g is f but for that
-listed_set : {X : Type 0} (f g : ℕ → X) (n k : ℕ) (x d : X) → k < n → g k ≡ x → ((i : ℕ) → i < n → i ≢ k → g i ≡ f i)
+pub listed_set : {X : Type 0} (f g : ℕ → X) (n k : ℕ) (x d : X) → k < n → g k ≡ x → ((i : ℕ) → i < n → i ≢ k → g i ≡ f i)
     → set (map f (range_with_len 0 n)) k x ≡ map g (range_with_len 0 n)
 listed_set {X} f g n k x d lt here others =
     let size : length (set (map f (range_with_len 0 n)) k x) ≡ n =
@@ -116,6 +116,22 @@ is_known-of rows cols pair all lt = listed_at (has_value all) (rows * cols) pair
 abbrev pub IsInside : ℕ → ℕ → Option Given → Type 0
 IsInside rows cols o = (given : Given) → o ≡ Some given → given.pair < rows * cols
 
+-- it does so if both places lie within it
+pub given_for-inside : (rows cols at value : ℕ) (first second : Option ℕ) → ((place : ℕ) → first ≡ Some place → place < rows)
+    → ((place : ℕ) → second ≡ Some place → place < cols) → IsInside rows cols (given_for cols at value first second)
+given_for-inside rows cols at value None second f s given is = absurd (cc)
+given_for-inside rows cols at value (Some first) None f s given is = absurd (cc)
+given_for-inside rows cols at value (Some first) (Some second) f s given is =
+    let e : pair_of cols first second ≡ given.pair = cc in
+    rw (sym e) (place_within rows cols first second (f first refl) (s second refl))
+
+-- a value of its own
+pub given_for-value : (width at value : ℕ) (first second : Option ℕ) (given : Given) → given_for width at value first second ≡ Some given
+    → given.value ≡ value
+given_for-value width at value None second given is = absurd (cc)
+given_for-value width at value (Some first) None given is = absurd (cc)
+given_for-value width at value (Some first) (Some second) given is = cc
+
 -- the refusal of a value, by the table and by the values before it
 pub twice-known : {E : Type 0} (refusal : ℕ → E) (rows cols : ℕ) (all : List Given) (values : PairTable) (o : Option Given)
     → values ≡ pair_table_of rows cols all → IsInside rows cols o
@@ -124,7 +140,7 @@ twice-known refusal rows cols all values None is inside = refl
 twice-known refusal rows cols all values (Some given) is inside =
     rw (is, is_known-of rows cols given.pair all (inside given refl)) refl
 
--- the table behind a value that is not refused
+-- the table after a value that is not refused
 pub with_given-new : {E : Type 0} (refusal : ℕ → E) (rows cols : ℕ) (all : List Given) (values : PairTable) (o : Option Given)
     → values ≡ pair_table_of rows cols all → IsInside rows cols o
     → option_and_then (twice refusal (has_value all)) o ≡ None

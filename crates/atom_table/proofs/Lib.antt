@@ -4,5 +4,4 @@ pub mod FirstBelow
 pub mod GivenValues
 pub mod NameLists
 pub mod OwnNames
-pub mod RateSums
 pub mod StepByStep

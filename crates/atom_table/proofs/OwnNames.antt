@@ -52,6 +52,22 @@ place_or_zero-within names name some = by (place_of names name) refl
     by None e = rw e some
     by (Some place) e = rw e ((position-Some (bytes_eq name) names place [] e).0)
 
+-- the place of a name lies among them
+place_of-within : (names : List (List ℕ)) (name : List ℕ) (place : ℕ) → place_of names name ≡ Some place → place < length names
+place_of-within names name place e = (position-Some (bytes_eq name) names place [] e).0
+
+pub unit_of-within : (units : List declared_unit.Unit) (name : List ℕ) (place : ℕ) → place_of (unit_names units) name ≡ Some place
+    → place < length units
+unit_of-within units name place e =
+    let size : length (unit_names units) ≡ length units = length-map units (λ (unit : declared_unit.Unit). unit.name) in
+    omega (arith, size, place_of-within (unit_names units) name place e)
+
+pub atom_of-within : (atoms : List Atom) (name : List ℕ) (place : ℕ) → place_of (atom_names atoms) name ≡ Some place
+    → place < length atoms
+atom_of-within atoms name place e =
+    let size : length (atom_names atoms) ≡ length atoms = length-map atoms (λ (atom : Atom). atom.name) in
+    omega (arith, size, place_of-within (atom_names atoms) name place e)
+
 -- the places of units and atoms
 pub unit_place-within : (units : List declared_unit.Unit) (name : List ℕ) → 0 < length units
     → place_or_zero (unit_names units) name < length units

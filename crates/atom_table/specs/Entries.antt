@@ -1,7 +1,8 @@
 -- The units and atoms that records list.
-use Rattle.std.specs.Prelude.{ℕ, ◌<◌, List, Option, Some, None, All, length, map, sum_by}
+use Rattle.std.specs.Prelude.{ℕ, ◌<◌, List, Option, Some, None, All, length, map}
 use Rattle.std.specs.List.{filter_map}
 use Rattle.hyper_model.specs.Plans.{IsBetween}
+use Rattle.hyper_model.specs.declared.TheConstants.{MOST_ATOMS, MOST_UNITS}
 use Rattle.hyper_model.specs.declared.parts.Atom.{Atom}
 use Rattle.hyper_model.specs.declared.parts.Unit as declared_unit
 use Rattle.plan_text.specs.declared.record.Record.{Record}
@@ -39,15 +40,8 @@ atoms_in units records = filter_map (atom_in units) records
 abbrev pub entries_in : List Record → Entries
 entries_in records = record { units = units_in records; atoms = atoms_in (units_in records) records }
 
--- the rate of all calls, and that of all service
-abbrev pub calls_sum : List Atom → ℕ
-calls_sum atoms = sum_by (λ (atom : Atom). atom.rate) atoms
-
-abbrev pub service_sum : List declared_unit.Unit → ℕ
-service_sum units = sum_by (λ (unit : declared_unit.Unit). unit.rate) units
-
 -- 1 to 12 units and 1 to 200 atoms, each in the district of one of the units
 pub record HasEntries (entries : Entries) : Type 0 where
-  pub units : IsBetween 1 12 (length entries.units)
-  pub atoms : IsBetween 1 200 (length entries.atoms)
+  pub units : IsBetween 1 MOST_UNITS (length entries.units)
+  pub atoms : IsBetween 1 MOST_ATOMS (length entries.atoms)
   pub districts : All (λ (atom : Atom). atom.district < length entries.units) entries.atoms

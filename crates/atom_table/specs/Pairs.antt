@@ -14,6 +14,12 @@ pub record Given : Type 0 where
   pub pair : ℕ
   pub value : ℕ
 
+-- a value for the pair of two places, if both are known
+abbrev pub given_for : ℕ → ℕ → ℕ → Option ℕ → Option ℕ → Option Given
+given_for width at value None second = None
+given_for width at value (Some first) None = None
+given_for width at value (Some first) (Some second) = Some (record { at = at; pair = pair_of width first second; value = value })
+
 -- the value of a pair: the first that is given for it
 abbrev pub value_of : List Given → ℕ → Option ℕ
 value_of all pair = option_map (λ (given : Given). given.value) (find (λ (given : Given). given.pair == pair) all)
@@ -25,7 +31,7 @@ has_value all pair = is_some (value_of all pair)
 abbrev pub twice : {E : Type 0} → (ℕ → E) → (ℕ → Bool) → Given → Option E
 twice refusal has given = if has given.pair then Some (refusal given.at) else None
 
--- the table of so many rows and columns with these values, and 0 where none is given
+-- the table of so many rows and columns with these values, and 0 if none is given
 abbrev pub table_of : ℕ → ℕ → List Given → Grid
 table_of rows cols all = record {
   rows = rows;

@@ -1,29 +1,32 @@
 -- Which units and atoms records give, or why they give none.
 use Rattle.std.specs.Prelude.{ℕ, ◌+◌, ◌==◌, if◌then◌else◌, nat_le, nat_lt, List, [], ◌∷◌, length, Option, Some, None, Result, Ok}
 use Rattle.std.specs.Option.{option_or}
+use Rattle.hyper_model.specs.Plans.{calls_in, service_in}
+use Rattle.hyper_model.specs.declared.TheConstants.{MOST_ATOMS, MOST_UNITS}
 use Rattle.hyper_model.specs.declared.parts.Atom.{Atom}
 use Rattle.hyper_model.specs.declared.parts.Unit as declared_unit
 use Rattle.plan_text.specs.Steps.{◌>>=◌, first_over, unless_refused}
 use Rattle.plan_text.specs.declared.record.Record.{Record}
 use Rattle.plan_text.specs.declared.record.Record.TheVariants as rec
 use Rattle.atom_table.specs.Names.{is_among}
-use Rattle.atom_table.specs.Entries.{Entries, atom_names, atoms_in, calls_sum, entries_in, service_sum, unit_names, units_in}
+use Rattle.atom_table.specs.Entries.{Entries, atom_names, atoms_in, entries_in, unit_names, units_in}
+use Rattle.atom_table.specs.declared.TheConstants.{MOST_RATE_SUM}
 use Rattle.atom_table.specs.declared.refusal.AtomRefusal.{AtomRefusal}
 use Rattle.atom_table.specs.declared.refusal.AtomRefusal.TheVariants.{DuplicateAtom, DuplicateUnit, NoAtoms, NoCalls, NoUnits, RateSum, ServiceSum, TooManyAtoms, TooManyUnits, UnknownName}
 
--- a unit behind others: it needs a name of its own, and is one of twelve at most
+-- a unit after others: it needs a name of its own, and is one of the most that a plan has
 abbrev pub unit_refusal : List declared_unit.Unit → Record → Option AtomRefusal
 unit_refusal units (rec.UnitIs at name rate) =
     if is_among (unit_names units) name then Some (DuplicateUnit at)
-    else if nat_le 12 (length units) then Some (TooManyUnits at)
+    else if nat_le MOST_UNITS (length units) then Some (TooManyUnits at)
     else None
 unit_refusal units _ = None
 
--- an atom behind others: it needs a name of its own, and is one of 200 at most
+-- an atom after others: it needs a name of its own, and is one of the most that a plan has
 abbrev pub atom_refusal : List Atom → Record → Option AtomRefusal
 atom_refusal atoms (rec.AtomIs at name rate x y unit) =
     if is_among (atom_names atoms) name then Some (DuplicateAtom at)
-    else if nat_le 200 (length atoms) then Some (TooManyAtoms at)
+    else if nat_le MOST_ATOMS (length atoms) then Some (TooManyAtoms at)
     else None
 atom_refusal atoms _ = None
 
@@ -65,12 +68,12 @@ names_refusal units atoms records = first_over (λ before. name_refusal units at
 -- there have to be calls, and neither calls nor service may be too many
 abbrev pub sum_refusal : List declared_unit.Unit → List Atom → Option AtomRefusal
 sum_refusal units atoms =
-    if calls_sum atoms == 0 then Some NoCalls
-    else if nat_lt 1000000 (calls_sum atoms) then Some (RateSum (calls_sum atoms))
-    else if nat_lt 1000000 (service_sum units) then Some (ServiceSum (service_sum units))
+    if calls_in atoms == 0 then Some NoCalls
+    else if nat_lt MOST_RATE_SUM (calls_in atoms) then Some (RateSum (calls_in atoms))
+    else if nat_lt MOST_RATE_SUM (service_in units) then Some (ServiceSum (service_in units))
     else None
 
--- the first refusal: of a unit, of an atom, for want of either, of a name, of the sums
+-- the first refusal: of a unit, of an atom, for lack of either, of a name, of the sums
 abbrev pub entries_refusal : List Record → Entries → Option AtomRefusal
 entries_refusal records entries =
     option_or (unit_records_refusal records)

@@ -11,8 +11,6 @@ mod refusal;
 mod sharing;
 mod sum_step;
 mod table;
-#[cfg(test)]
-mod tests;
 mod unit_step;
 
 pub use pair_values::PairValues;

@@ -30,7 +30,7 @@ impl NameIndex {
         }
     }
 
-    /// Puts a name behind the others.
+    /// Puts a name after the others.
     pub(crate) fn push(&mut self, name: Name) -> Result<(), AllocError>
         requires { is_among self.old name ≡ false }
         ensures ok { OnOk result (self.new ≡ self.old ++ name ∷ []) }

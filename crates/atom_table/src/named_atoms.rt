@@ -3,7 +3,7 @@ ghost use Rattle.atom_table.specs.Names.{is_among, place_of};
 ghost use Rattle.atom_table.specs.Entries.{atom_names};
 
 use crate::name_index::NameIndex;
-use hyper_model::{Atom, Atoms, Name};
+use hyper_model::{Atom, Atoms, MOST_ATOMS, Name};
 use std::alloc::{AllocError, Global};
 use std::marker::Model;
 
@@ -17,13 +17,14 @@ pub(crate) struct NamedAtoms {
 impl Model for NamedAtoms {
     ghost use Rattle.std.specs.Prelude.{◌≡◌, ◌≤◌, List, length};
     ghost use Rattle.hyper_model.specs.declared.parts.Atom.{Atom};
+    ghost use Rattle.hyper_model.specs.declared.TheConstants.{MOST_ATOMS};
     ghost use Rattle.atom_table.specs.Entries.{atom_names};
 
     ghost Value = { List Atom };
 
     ghost view = { λ a. a.list };
 
-    ghost invariant = { λ a. (a.names ≡ atom_names a.list) × (length a.list ≤ 200) };
+    ghost invariant = { λ a. (a.names ≡ atom_names a.list) × (length a.list ≤ MOST_ATOMS) };
 }
 
 impl NamedAtoms {
@@ -37,9 +38,9 @@ impl NamedAtoms {
         })
     }
 
-    /// Puts an atom behind the others.
+    /// Puts an atom after the others.
     pub(crate) fn push(&mut self, alloc: Global, atom: Atom) -> Result<(), AllocError>
-        requires room { length self.old < 200 }
+        requires room { length self.old < MOST_ATOMS }
         requires own_name { is_among (atom_names self.old) atom.name ≡ false }
         ensures ok { OnOk result (self.new ≡ self.old ++ atom ∷ []) }
         ensures err { OnErr result (self.new ≡ self.old) }
@@ -76,14 +77,14 @@ impl NamedAtoms {
         self.list.len()
     }
 
-    /// The atoms alone.
+    /// Only the atoms.
     pub(crate) fn list(&self) -> &Atoms
         ensures { result.now ≡ self.now }
     {
         &self.list
     }
 
-    /// Their names alone.
+    /// Only their names.
     pub(crate) fn names(&self) -> &NameIndex
         ensures { result.now ≡ atom_names self.now }
     {

@@ -3,7 +3,7 @@ ghost use Rattle.atom_table.specs.Names.{is_among, place_of};
 ghost use Rattle.atom_table.specs.Entries.{unit_names};
 
 use crate::name_index::NameIndex;
-use hyper_model::{Name, Unit, Units};
+use hyper_model::{MOST_UNITS, Name, Unit, Units};
 use std::alloc::{AllocError, Global};
 use std::marker::Model;
 
@@ -17,13 +17,14 @@ pub(crate) struct NamedUnits {
 impl Model for NamedUnits {
     ghost use Rattle.std.specs.Prelude.{◌≡◌, ◌≤◌, List, length};
     ghost use Rattle.hyper_model.specs.declared.parts.Unit as declared_unit;
+    ghost use Rattle.hyper_model.specs.declared.TheConstants.{MOST_UNITS};
     ghost use Rattle.atom_table.specs.Entries.{unit_names};
 
     ghost Value = { List declared_unit.Unit };
 
     ghost view = { λ a. a.list };
 
-    ghost invariant = { λ a. (a.names ≡ unit_names a.list) × (length a.list ≤ 12) };
+    ghost invariant = { λ a. (a.names ≡ unit_names a.list) × (length a.list ≤ MOST_UNITS) };
 }
 
 impl NamedUnits {
@@ -37,9 +38,9 @@ impl NamedUnits {
         })
     }
 
-    /// Puts a unit behind the others.
+    /// Puts a unit after the others.
     pub(crate) fn push(&mut self, alloc: Global, unit: Unit) -> Result<(), AllocError>
-        requires room { length self.old < 12 }
+        requires room { length self.old < MOST_UNITS }
         requires own_name { is_among (unit_names self.old) unit.name ≡ false }
         ensures ok { OnOk result (self.new ≡ self.old ++ unit ∷ []) }
         ensures err { OnErr result (self.new ≡ self.old) }
@@ -76,14 +77,14 @@ impl NamedUnits {
         self.list.len()
     }
 
-    /// The units alone.
+    /// Only the units.
     pub(crate) fn list(&self) -> &Units
         ensures { result.now ≡ self.now }
     {
         &self.list
     }
 
-    /// Their names alone.
+    /// Only their names.
     pub(crate) fn names(&self) -> &NameIndex
         ensures { result.now ≡ unit_names self.now }
     {

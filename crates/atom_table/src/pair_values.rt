@@ -2,7 +2,7 @@ ghost use Rattle.std.specs.Prelude.{◌≡◌, ◌<◌, ◌≤◌, [], find, if�
 ghost use Rattle.std.specs.List.{range_with_len};
 ghost use Rattle.atom_table.specs.Pairs.{is_known, pair_of, pair_table_of, with_value};
 
-use hyper_model::Table;
+use hyper_model::{MOST_ATOMS, Table};
 use std::alloc::{AllocError, Global};
 use std::marker::Model;
 
@@ -27,8 +27,8 @@ impl Model for PairValues {
 impl PairValues {
     /// No values, in a table of so many rows and columns.
     pub fn of(alloc: Global, rows: usize, cols: usize) -> Result<PairValues, AllocError>
-        requires rows { rows ≤ 200 }
-        requires cols { cols ≤ 200 }
+        requires rows { rows ≤ MOST_ATOMS }
+        requires cols { cols ≤ MOST_ATOMS }
         ensures { IfOk result (λ values. values ≡ pair_table_of rows cols []) }
     {
         Ok(PairValues {
@@ -37,7 +37,7 @@ impl PairValues {
         })
     }
 
-    /// Puts in the value of a pair, or answers false and changes nothing where the pair has one.
+    /// Puts in the value of a pair, or answers false and changes nothing if the pair has one.
     pub fn put(&mut self, row: usize, col: usize, value: u32) -> bool
         requires row { row < self.old.table.rows }
         requires col { col < self.old.table.cols }

@@ -1,6 +1,4 @@
-ghost use Rattle.std.specs.Prelude.{◌≡◌};
 ghost use Rattle.plan_text.specs.Steps.{Refuses};
-ghost use Rattle.atom_table.specs.Entries as spec;
 ghost use Rattle.atom_table.specs.Refusals.{none_refusal, sum_refusal};
 
 use crate::{AtomRefusal, MOST_RATE_SUM};
@@ -23,36 +21,16 @@ pub(crate) fn check_some(units: &Units, atoms: &Atoms) -> Result<(), AtomRefusal
 pub(crate) fn check_sums(units: &Units, atoms: &Atoms) -> Result<(), AtomRefusal>
     ensures { Refuses result (sum_refusal units.now atoms.now) }
 {
-    let calls = calls_sum(atoms);
+    let calls = atoms.calls();
     if calls == 0 {
         return Err(AtomRefusal::NoCalls);
     }
     if calls > MOST_RATE_SUM {
         return Err(AtomRefusal::RateSum(calls));
     }
-    let service = service_sum(units);
+    let service = units.service();
     if service > MOST_RATE_SUM {
         return Err(AtomRefusal::ServiceSum(service));
     }
     Ok(())
-}
-
-fn calls_sum(atoms: &Atoms) -> u64
-    ensures { result ≡ spec.calls_sum atoms.now }
-{
-    let mut total = 0;
-    for j in 0..atoms.len() {
-        total += u64::from(atoms.get(j).rate);
-    }
-    total
-}
-
-fn service_sum(units: &Units) -> u64
-    ensures { result ≡ spec.service_sum units.now }
-{
-    let mut total = 0;
-    for n in 0..units.len() {
-        total += u64::from(units.get(n).rate);
-    }
-    total
 }

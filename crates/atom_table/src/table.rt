@@ -13,7 +13,7 @@ use crate::named_atoms::NamedAtoms;
 use crate::named_units::NamedUnits;
 use crate::sum_step::{check_some, check_sums};
 use crate::unit_step::read_units;
-use hyper_model::{Atoms, Name, Units};
+use hyper_model::{Atoms, MOST_ATOMS, MOST_UNITS, Name, Units};
 use plan_text::Record;
 use std::alloc::Global;
 use std::marker::Model;
@@ -55,7 +55,7 @@ impl AtomTable {
         Ok(AtomTable { units, atoms })
     }
 
-    /// The place of the unit with this name, counted from 0: none exactly where no unit has it.
+    /// The place of the unit with this name, counted from 0: none exactly if no unit has it.
     pub fn unit_of(&self, name: &Name) -> Option<u8>
         ensures place { result ≡ place_of (unit_names self.now.units) name.now }
         ensures known { is_some result ≡ is_among (unit_names self.now.units) name.now }
@@ -64,7 +64,7 @@ impl AtomTable {
         self.units.place_of(name)
     }
 
-    /// The place of the atom with this name, counted from 0: none exactly where no atom has it.
+    /// The place of the atom with this name, counted from 0: none exactly if no atom has it.
     pub fn atom_of(&self, name: &Name) -> Option<u16>
         ensures place { result ≡ place_of (atom_names self.now.atoms) name.now }
         ensures known { is_some result ≡ is_among (atom_names self.now.atoms) name.now }
@@ -73,7 +73,7 @@ impl AtomTable {
         self.atoms.place_of(name)
     }
 
-    /// The place of the unit with this name, counted from 0, and 0 where no unit has it.
+    /// The place of the unit with this name, counted from 0, and 0 if no unit has it.
     pub fn unit_place(&self, name: &Name) -> usize
         ensures place { result ≡ place_or_zero (unit_names self.now.units) name.now }
         ensures within { result < length self.now.units }
@@ -81,7 +81,7 @@ impl AtomTable {
         usize::from(self.units.place_of(name).unwrap_or(0))
     }
 
-    /// The place of the atom with this name, counted from 0, and 0 where no atom has it.
+    /// The place of the atom with this name, counted from 0, and 0 if no atom has it.
     pub fn atom_place(&self, name: &Name) -> usize
         ensures place { result ≡ place_or_zero (atom_names self.now.atoms) name.now }
         ensures within { result < length self.now.atoms }
@@ -92,7 +92,7 @@ impl AtomTable {
     /// The units.
     pub fn units(&self) -> &Units
         ensures units { result.now ≡ self.now.units }
-        ensures number { IsBetween 1 12 (length self.now.units) }
+        ensures number { IsBetween 1 MOST_UNITS (length self.now.units) }
     {
         self.units.list()
     }
@@ -100,7 +100,7 @@ impl AtomTable {
     /// The atoms.
     pub fn atoms(&self) -> &Atoms
         ensures atoms { result.now ≡ self.now.atoms }
-        ensures number { IsBetween 1 200 (length self.now.atoms) }
+        ensures number { IsBetween 1 MOST_ATOMS (length self.now.atoms) }
         ensures districts { All (λ (atom : Atom). atom.district < length self.now.units) self.now.atoms }
     {
         self.atoms.list()

@@ -35,7 +35,10 @@ fn take_unit(alloc: Global, item: &Record, units: &mut NamedUnits) -> Result<(),
     if units.len() >= MOST_UNITS {
         return Err(AtomRefusal::TooManyUnits(u64::from(*at)));
     }
-    let name = name.copied(alloc)?;
-    units.push(alloc, Unit { name, rate: *rate })?;
+    let unit = Unit {
+        name: name.copied(alloc)?,
+        rate: *rate,
+    };
+    units.push(alloc, unit)?;
     Ok(())
 }

@@ -10,7 +10,8 @@ use Rattle.fixed_interval.proofs.Rounding.{div_ceil-le, div_ceil-positive, facto
 use Rattle.fixed_interval.proofs.Shifts.{encloses_push}
 use Rattle.hyper_model.specs.Sums.{sum_below}
 use Rattle.hyper_model.proofs.Sums.{place_le_sum, positive_place, sum-constant, sum-le, sum-scaled}
-use Rattle.rate_matrix.specs.Elimination.{AreSoundEntries, Entries, total_below}
+use Rattle.rate_matrix.specs.Elimination.{AreSoundEntries, Entries}
+use Rattle.busy_words.specs.Algebra.{total_ends}
 use Rattle.rate_matrix.specs.Weights.{inflow_ends, weight_of}
 use Rattle.back_solve.specs.Laws.{NextWeightFits}
 
@@ -81,12 +82,12 @@ quotient-ordered a b l h flow some out =
 pub record IsReady (m : ℕ) (entries : Entries) (items : List Ends) : Type 0 where
   pub count : length items ≡ m
   pub weights : All IsWeight items
-  pub out : 0 < (total_below (entries m) m).lo
+  pub out : 0 < (total_ends m (entries m)).lo
   pub row : (k : ℕ) → k < m → (entries m k).lo ≤ (entries m k).hi
   pub column : (i : ℕ) → i < m → (entries i m).lo ≤ (entries i m).hi
 
 pub out-ordered : (m : ℕ) (entries : Entries) (items : List Ends) → IsReady m entries items
-    → (total_below (entries m) m).lo ≤ (total_below (entries m) m).hi
+    → (total_ends m (entries m)).lo ≤ (total_ends m (entries m)).hi
 out-ordered m entries items ready = sum-le m (λ k. (entries m k).lo) (λ k. (entries m k).hi) ready.row
 
 pub inflow-ordered : (m : ℕ) (entries : Entries) (items : List Ends) → IsReady m entries items
@@ -101,7 +102,7 @@ pub weight_of-ordered : (m : ℕ) (entries : Entries) (items : List Ends) → Is
     → (weight_of entries items m).lo ≤ (weight_of entries items m).hi
 weight_of-ordered m entries items ready =
     quotient-ordered (inflow_ends entries items m).lo (inflow_ends entries items m).hi
-    (total_below (entries m) m).lo (total_below (entries m) m).hi
+    (total_ends m (entries m)).lo (total_ends m (entries m)).hi
     (inflow-ordered m entries items ready) ready.out (out-ordered m entries items ready)
 
 -- the flow into a state, of weights up to 2 ^ 52 and entries up to 2 ^ 62
@@ -140,7 +141,7 @@ pub next_weight_fits : NextWeightFits
 next_weight_fits size least m caps entries items few some under sound later inside count weights = (
   weight_of-ordered m entries items
       (is_ready size least m caps entries items (omega (arith, some)) sound later inside count weights),
-  below_limit m (inflow_ends entries items m).hi (total_below (entries m) m).lo (omega arith)
+  below_limit m (inflow_ends entries items m).hi (total_ends m (entries m)).lo (omega arith)
       (omega (arith, some, sound.live.leaves m later inside))
       (inflow-in_range m entries items count weights
       (λ i l. omega (arith, sound.within.capped i m (omega arith) inside (omega arith), under i (omega arith)))),
@@ -149,25 +150,25 @@ next_weight_fits size least m caps entries items few some under sound later insi
 -- the new weight, with a mass that the flows from the states before it hold
 pub weight_of-encloses : (m : ℕ) (entries : Entries) (items : List Ends) (numbers : List ℕ) (y : ℕ)
     → IsReady m entries items → EnclosesAll items numbers
-    → y * (total_below (entries m) m).lo ≤ sum_below m (λ i. slice_index numbers i * (entries i m).hi)
-    → sum_below m (λ i. slice_index numbers i * (entries i m).lo) ≤ y * (total_below (entries m) m).hi
+    → y * (total_ends m (entries m)).lo ≤ sum_below m (λ i. slice_index numbers i * (entries i m).hi)
+    → sum_below m (λ i. slice_index numbers i * (entries i m).lo) ≤ y * (total_ends m (entries m)).hi
     → EnclosesAll (items ++ weight_of entries items m ∷ []) (numbers ++ y ∷ [])
 weight_of-encloses m entries items numbers y ready e least most =
     encloses_push items numbers (weight_of entries items m) y (weight_of-ordered m entries items ready) e
     (λ i inside.
-    over_rounded_up (inflow_ends entries items m).hi (total_below (entries m) m).lo
+    over_rounded_up (inflow_ends entries items m).hi (total_ends m (entries m)).lo
     (ends_at items i).lo (slice_index numbers i) y (sum_below m (λ k. slice_index numbers k * (entries k m).hi))
     ready.out least
     (cross_high m (ends_at items i).lo (slice_index numbers i) (ends_at items) (λ k. entries k m)
     (slice_index numbers) (λ k l. e.in_ratio i k inside (omega (arith, ready.count)))))
     (λ i inside.
-    over_rounded_down (inflow_ends entries items m).lo (total_below (entries m) m).hi
+    over_rounded_down (inflow_ends entries items m).lo (total_ends m (entries m)).hi
     (ends_at items i).hi (slice_index numbers i) y (sum_below m (λ k. slice_index numbers k * (entries k m).lo))
     (omega (arith, ready.out, out-ordered m entries items ready)) most
     (cross_low m (ends_at items i).hi (slice_index numbers i) (ends_at items) (λ k. entries k m)
     (slice_index numbers) (λ k l. e.in_ratio k i (omega (arith, ready.count)) inside)))
     (λ some.
-    div_ceil-positive (inflow_ends entries items m).hi (total_below (entries m) m).lo ready.out
+    div_ceil-positive (inflow_ends entries items m).hi (total_ends m (entries m)).lo ready.out
     (some_flow m (ends_at items) (λ k. entries k m) (slice_index numbers)
     (λ k l. e.positive k (omega (arith, ready.count)))
     (omega (arith, least, mul-pos some ready.out))))

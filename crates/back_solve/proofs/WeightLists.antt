@@ -9,8 +9,10 @@ use Rattle.fixed_interval.specs.WeightList.{EnclosesAll, IsWeight, PushesShifted
 use Rattle.fixed_interval.proofs.Shifts.{IsWeight-shifted, encloses_one, encloses_pushed, shifted-ordered}
 use Rattle.hyper_model.specs.Solutions.{mass_in}
 use Rattle.hyper_model.proofs.Sums.{sum-same}
-use Rattle.rate_matrix.specs.Elimination.{AreSoundEntries, Entries, HoldsAll, SameEntries, total_below}
+use Rattle.rate_matrix.specs.Elimination.{AreSoundEntries, Entries, HoldsAll, SameEntries}
+use Rattle.busy_words.specs.Algebra.{total_ends}
 use Rattle.rate_matrix.specs.Weights.{AreWeightsOf, inflow_ends, weight_of}
+use Rattle.rate_matrix.proofs.Totals.{between-same}
 use Rattle.rate_matrix.proofs.Sameness.{leaving-same}
 use Rattle.back_solve.specs.Laws.{AreWeightsDetermined, DependOnEntries, WeightsEnclose, WeightsInRange}
 use Rattle.back_solve.proofs.NextWeight.{is_ready, weight_of-encloses, weight_of-ordered}
@@ -114,10 +116,7 @@ are_determined (suc (suc m)) entries items others are again =
     subst (λ b. PushesShifted b others (weight_of entries b (suc m))) (sym before) again.2 in
     pushed-one are.0 items others (weight_of entries are.0 (suc m)) are.2 pushed
 
-between-same : (a c b d : ℕ) → a ≡ c → b ≡ d → between a b ≡ between c d
-between-same a c b d low high = cc
-
--- the next weight depends on the entries between different states alone
+-- the next weight depends on the entries between different states only
 pub weight_of-same : (size : ℕ) (a b : Entries) → SameEntries size a b → (items : List Ends) (m : ℕ) → m < size
     → weight_of a items m ≡ weight_of b items m
 weight_of-same size a b same items m inside =
@@ -127,8 +126,8 @@ weight_of-same size a b same items m inside =
     let high = sum-same m (λ i. (ends_at items i).hi * (a i m).hi) (λ i. (ends_at items i).hi * (b i m).hi)
     (λ i l. ap (λ (e : Ends). (ends_at items i).hi * e.hi) (same.same i m (omega arith) inside (omega arith))) in
     between-same _ _ _ _
-    (ap (λ f. f / (total_below (a m) m).hi) low ∙ ap (λ (e : Ends). (inflow_ends b items m).lo / e.hi) out)
-    (ap (λ f. div_ceil f (total_below (a m) m).lo) high ∙ ap (λ (e : Ends). div_ceil (inflow_ends b items m).hi e.lo) out)
+    (ap (λ f. f / (total_ends m (a m)).hi) low ∙ ap (λ (e : Ends). (inflow_ends b items m).lo / e.hi) out)
+    (ap (λ f. div_ceil f (total_ends m (a m)).lo) high ∙ ap (λ (e : Ends). div_ceil (inflow_ends b items m).hi e.lo) out)
 
 pub depend_on_entries : DependOnEntries
 unfolding AreWeightsOf

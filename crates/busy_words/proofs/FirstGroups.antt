@@ -20,7 +20,6 @@ use Rattle.hyper_model.proofs.Bits.{full_busy, free_exists}
 use Rattle.hyper_model.proofs.Grouping.{from_grouped}
 use Rattle.hyper_model.proofs.Takers.{taker_free, taker_exists, takers_positive}
 use Rattle.hyper_model.proofs.PlanLaws.{full_below}
-use Rattle.busy_words.specs.Sets.{is_member}
 
 abbrev stands_in : ℕ → List ℕ → Bool
 stands_in n group = list_any (λ m. m == n) group
@@ -140,7 +139,7 @@ groups_next units begins place l = rw (drop-cons units place 0 l) (elim (cases_l
 ])
 
 -- no set bit, one more set bit, and two numbers with the same bits
-member_of_none : (n : ℕ) → is_member 0 n ≡ false
+member_of_none : (n : ℕ) → is_busy 0 n ≡ false
 member_of_none n = ap (λ d. eqb d 1) (bit_at-zero n)
 
 largest : (a b : ℕ) → a < 2 → b < 2 → eqb (max a b) 1 ≡ (eqb a 1 || eqb b 1)
@@ -161,11 +160,11 @@ bit_of_one u n = elim (cases_eq n u) [
     apart : (u n : ℕ) → n ≢ u → (u == n) ≡ false
     apart u n ne = grind (arith, nat_tests)
 
-pub member_of_more : (set u n : ℕ) → is_member (bit_or set (2 ^ u)) n ≡ (is_member set n || (u == n))
+pub member_of_more : (set u n : ℕ) → is_busy (bit_or set (2 ^ u)) n ≡ (is_busy set n || (u == n))
 member_of_more set u n =
     ap (λ d. eqb d 1) (bit_at_or set (2 ^ u) n)
     ∙ largest (bit_at set n) (bit_at (2 ^ u) n) (bit_at-lt set n) (bit_at-lt (2 ^ u) n)
-    ∙ ap (λ c. is_member set n || c) (bit_of_one u n)
+    ∙ ap (λ c. is_busy set n || c) (bit_of_one u n)
 
 -- the units of a list that holds each of n once are below n
 pub unit_below : (n : ℕ) (units : List ℕ) (begins : List Bool) → IsGrouped n (groups_from units begins)
@@ -175,7 +174,7 @@ unit_below n units begins h place l =
 
 -- where some unit is free, somebody takes the call, and where none is, nobody
 pub takers_none_full : (n : ℕ) (groups : List (List ℕ)) (w set : ℕ) → IsGrouped n groups → w < 2 ^ n → set < 2 ^ n
-    → ((m : ℕ) → is_member set m ≡ is_taker groups w m) → (set ≡ 0) ↔ (w ≡ 2 ^ n - 1)
+    → ((m : ℕ) → is_busy set m ≡ is_taker groups w m) → (set ≡ 0) ↔ (w ≡ 2 ^ n - 1)
 takers_none_full n groups w set g below small told = (
   λ none. elim (cases_eq w (2 ^ n - 1)) [
     | inl full ↦ full
@@ -183,11 +182,11 @@ takers_none_full n groups w set g below small told = (
         let free = free_exists n w below other in
         let taker = taker_exists n groups w free.0 g.within free.2
         (omega (arith, g.once free.0 free.1)) in
-        absurd (true≢false (sym taker.2 ∙ sym (told taker.0) ∙ ap (λ s. is_member s taker.0) none
+        absurd (true≢false (sym taker.2 ∙ sym (told taker.0) ∙ ap (λ s. is_busy s taker.0) none
         ∙ member_of_none taker.0))
   ],
   λ full. same_from_bits set 0 (λ i. elim (cases_lt i n) [
-    | inl l ↦ not_set (bit_at set i) (bit_at-lt set i) (on_test (is_member set i)
+    | inl l ↦ not_set (bit_at set i) (bit_at-lt set i) (on_test (is_busy set i)
         (λ t. absurd (true≢false (sym (full_busy n i l) ∙ sym (ap (λ v. is_busy v i) full)
         ∙ taker_free groups w i (sym (told i) ∙ t))))
         (λ f. f)) ∙ sym (bit_at-zero i)
@@ -248,14 +247,14 @@ first_none_full n units begins g w below =
 -- what a search over the places of a list knows when the places before this one are done
 abbrev pub IsCarried : GroupLists → ℕ → ℕ → ℕ → ℕ → Type 0
 IsCarried lists atom word place takers =
-    (n : ℕ) → carried (not (eqb takers 0)) (is_member takers n) (begins_at lists atom place)
+    (n : ℕ) → carried (not (eqb takers 0)) (is_busy takers n) (begins_at lists atom place)
     (groups_after (list_of lists atom) (row_of lists atom).begins place) word n
     ≡ is_taker (groups_in lists atom) word n
 
-none_so_far : (takers n : ℕ) → not (eqb takers 0) ≡ false → is_member takers n ≡ false
+none_so_far : (takers n : ℕ) → not (eqb takers 0) ≡ false → is_busy takers n ≡ false
 none_so_far takers n none =
     let zero_set : takers ≡ 0 = eqb-true takers 0 (not-false (eqb takers 0) none) in
-    ap (λ s. is_member s n) zero_set ∙ member_of_none n
+    ap (λ s. is_busy s n) zero_set ∙ member_of_none n
   where
     not-false : (b : Bool) → not b ≡ false → b ≡ true
     not-false true e = refl
@@ -269,8 +268,8 @@ search_busy lists atom word place takers unit l is_unit go busy h n =
     let begins = (row_of lists atom).begins in
     let some = not (eqb takers 0) in
     let here = begins_at lists atom place in
-    sym (ap (λ gs. carried some (is_member takers n) here gs word n) (groups_next units begins place l)
-    ∙ busy_place some (is_member takers n) here (begins_at lists atom (suc place)) (get_or units place 0)
+    sym (ap (λ gs. carried some (is_busy takers n) here gs word n) (groups_next units begins place l)
+    ∙ busy_place some (is_busy takers n) here (begins_at lists atom (suc place)) (get_or units place 0)
     (groups_after units begins (suc place)) word n go (sym (ap (is_free word) is_unit) ∙ busy))
     ∙ h n
 
@@ -285,12 +284,12 @@ search_free lists atom word place takers unit next l is_unit go free is_next h n
     let here = begins_at lists atom place in
     let groups = groups_after units begins (suc place) in
     let later = begins_at lists atom (suc place) in
-    let set : is_member next n ≡ (is_member takers n || (unit == n)) =
-    ap (λ s. is_member s n) is_next ∙ member_of_more takers unit n in
-    ap (λ b. carried b (is_member next n) later groups word n) (not_empty next unit is_next)
-    ∙ ap (λ b. carried true b later groups word n) (set ∙ ap (λ u. is_member takers n || (u == n)) is_unit)
-    ∙ sym (ap (λ gs. carried some (is_member takers n) here gs word n) (groups_next units begins place l)
-    ∙ free_place some (is_member takers n) here later (get_or units place 0) groups word n go
+    let set : is_busy next n ≡ (is_busy takers n || (unit == n)) =
+    ap (λ s. is_busy s n) is_next ∙ member_of_more takers unit n in
+    ap (λ b. carried b (is_busy next n) later groups word n) (not_empty next unit is_next)
+    ∙ ap (λ b. carried true b later groups word n) (set ∙ ap (λ u. is_busy takers n || (u == n)) is_unit)
+    ∙ sym (ap (λ gs. carried some (is_busy takers n) here gs word n) (groups_next units begins place l)
+    ∙ free_place some (is_busy takers n) here later (get_or units place 0) groups word n go
     (none_so_far takers n) (sym (ap (is_free word) is_unit) ∙ free))
     ∙ h n
   where
@@ -300,32 +299,32 @@ search_free lists atom word place takers unit next l is_unit go free is_next h n
 
     not_empty : (next unit : ℕ) → next ≡ bit_or takers (2 ^ unit) → not (eqb next 0) ≡ true
     not_empty next unit e = on_test (eqb next 0)
-        (λ t. absurd (true≢false (sym (or_true (is_member takers unit))
-        ∙ sym (ap (λ c. is_member takers unit || c) (eq-eqb unit unit refl))
-        ∙ sym (member_of_more takers unit unit) ∙ sym (ap (λ s. is_member s unit) e)
-        ∙ ap (λ s. is_member s unit) (eqb-true next 0 t) ∙ member_of_none unit)))
+        (λ t. absurd (true≢false (sym (or_true (is_busy takers unit))
+        ∙ sym (ap (λ c. is_busy takers unit || c) (eq-eqb unit unit refl))
+        ∙ sym (member_of_more takers unit unit) ∙ sym (ap (λ s. is_busy s unit) e)
+        ∙ ap (λ s. is_busy s unit) (eqb-true next 0 t) ∙ member_of_none unit)))
         (λ f. ap not f)
 
 -- the search ends where a group begins after a free unit, or after the last place
 pub search_stops : (lists : GroupLists) (atom word place takers : ℕ) → takers ≢ 0 → begins_at lists atom place ≡ true
-    → IsCarried lists atom word place takers → (n : ℕ) → is_member takers n ≡ is_taker (groups_in lists atom) word n
+    → IsCarried lists atom word place takers → (n : ℕ) → is_busy takers n ≡ is_taker (groups_in lists atom) word n
 search_stops lists atom word place takers some begins h n =
     let groups = groups_after (list_of lists atom) (row_of lists atom).begins place in
-    sym (ap (λ b. carried b (is_member takers n) (begins_at lists atom place) groups word n) (some_set takers some)
-    ∙ ap (λ b. carried true (is_member takers n) b groups word n) begins
-    ∙ new_group (is_member takers n) groups word n)
+    sym (ap (λ b. carried b (is_busy takers n) (begins_at lists atom place) groups word n) (some_set takers some)
+    ∙ ap (λ b. carried true (is_busy takers n) b groups word n) begins
+    ∙ new_group (is_busy takers n) groups word n)
     ∙ h n
   where
     some_set : (takers : ℕ) → takers ≢ 0 → not (eqb takers 0) ≡ true
     some_set takers ne = grind (arith, nat_tests)
 
 pub search_ends : (lists : GroupLists) (atom word place takers : ℕ) → length (list_of lists atom) ≤ place
-    → IsCarried lists atom word place takers → (n : ℕ) → is_member takers n ≡ is_taker (groups_in lists atom) word n
+    → IsCarried lists atom word place takers → (n : ℕ) → is_busy takers n ≡ is_taker (groups_in lists atom) word n
 search_ends lists atom word place takers l h n =
     let begins = (row_of lists atom).begins in
-    sym (ap (λ units. carried (not (eqb takers 0)) (is_member takers n) (begins_at lists atom place)
+    sym (ap (λ units. carried (not (eqb takers 0)) (is_busy takers n) (begins_at lists atom place)
     (groups_from units (drop (suc place) begins)) word n) (drop_of_length-le (list_of lists atom) l)
-    ∙ no_group (not (eqb takers 0)) (is_member takers n) (begins_at lists atom place) word n (none_so_far takers n))
+    ∙ no_group (not (eqb takers 0)) (is_busy takers n) (begins_at lists atom place) word n (none_so_far takers n))
     ∙ h n
 
 -- the first free unit is found at its place, or past the last one it is none
@@ -370,14 +369,14 @@ lists_grouped p a lists e atom l =
     (subst (λ k. IsGrouped k (groups_of p atom)) (sym a.lists.width) (a.lists.grouped atom l))
 
 pub takes_told : (p : PlanParts) (lists : GroupLists) → lists ≡ p.lists → (atom word set n : ℕ)
-    → is_member set n ≡ is_taker (groups_in lists atom) word n → is_member set n ≡ takes p atom word n
+    → is_busy set n ≡ is_taker (groups_in lists atom) word n → is_busy set n ≡ takes p atom word n
 takes_told p lists e atom word set n told = told ∙ ap (λ ls. is_taker (groups_in ls atom) word n) e
 
 pub level_of_takers : (p : PlanParts) (lists : GroupLists) → lists ≡ p.lists → (atom word set : ℕ)
-    → ((n : ℕ) → is_member set n ≡ is_taker (groups_in lists atom) word n)
+    → ((n : ℕ) → is_busy set n ≡ is_taker (groups_in lists atom) word n)
     → level (units p) set ≡ taker_count p atom word
 level_of_takers p lists e atom word set told =
-    sum-same (units p) (λ n. cond (is_member set n) 1 0) (λ n. cond (takes p atom word n) 1 0)
+    sum-same (units p) (λ n. cond (is_busy set n) 1 0) (λ n. cond (takes p atom word n) 1 0)
     (λ n l. ap {B = ℕ} (λ b. cond b 1 0) (takes_told p lists e atom word set n (told n)))
 
 -- in a word that is not full, somebody takes the call

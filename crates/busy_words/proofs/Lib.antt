@@ -6,3 +6,4 @@ pub mod Algebra
 pub mod SetParts
 pub mod Places
 pub mod WeightParts
+pub mod MeasureEnds

@@ -7,7 +7,7 @@ use Rattle.fixed_interval.specs.Ends.{Ends, Encloses, scaled_ends}
 use Rattle.fixed_interval.proofs.Rounding.{encloses_same, encloses_scaled, encloses_ratio, encloses_share}
 use Rattle.fixed_interval.proofs.Scaled.{Holds, AreScaled, scaled_by}
 use Rattle.busy_words.specs.Algebra.{where_ends}
-use Rattle.busy_words.specs.Parts.{weighed, weighed_numbers, divided, part, set_ends, set_part}
+use Rattle.busy_words.specs.Parts.{weighed_ends, weighed_numbers, divided_ends, part, set_ends, set_part}
 use Rattle.busy_words.proofs.Algebra.{encloses_total, encloses_where}
 
 pub scaled_in_all : (n : ℕ) (w : ℕ → Ends) (y : ℕ → ℕ) → Holds n w y → 0 < sum_below n y → AreScaled n w y
@@ -21,7 +21,7 @@ holds_fewer n m w y le h = record {
 }
 
 encloses_weighed : (n : ℕ) (times : ℕ → ℕ) (w : ℕ → Ends) (y : ℕ → ℕ) (den : ℕ)
-    → ((i : ℕ) → i < n → Encloses (w i) (y i) den) → Encloses (weighed n times w) (weighed_numbers n times y) den
+    → ((i : ℕ) → i < n → Encloses (w i) (y i) den) → Encloses (weighed_ends n times w) (weighed_numbers n times y) den
 encloses_weighed n times w y den h =
     encloses_total n (λ i. scaled_ends (times i) (w i)) (λ i. times i * y i) den
     (λ i l. encloses_scaled (w i) (scaled_ends (times i) (w i)) (times i) refl (y i) den (h i l))
@@ -45,10 +45,10 @@ part_encloses unit n g times rest w y some_g h some =
     encloses_same (part unit n g times rest w) c.factor _ _ (unit * (a * 1)) (a * 1 + b * 1) c.some
     (omega (arith, ap (λ k. unit * k) (numbers_scaled n c.factor times y)))
     (omega (arith, numbers_scaled n c.factor times y, numbers_scaled n c.factor rest y))
-    (encloses_share (divided g (weighed n times w)) (divided g (weighed n rest w)) (part unit n g times rest w) unit refl
+    (encloses_share (divided_ends g (weighed_ends n times w)) (divided_ends g (weighed_ends n rest w)) (part unit n g times rest w) unit refl
     (a * 1) (b * 1) (g * c.den)
-    (encloses_ratio (weighed n times w) (divided g (weighed n times w)) 1 g some_g refl a c.den inside)
-    (encloses_ratio (weighed n rest w) (divided g (weighed n rest w)) 1 g some_g refl b c.den outside))
+    (encloses_ratio (weighed_ends n times w) (divided_ends g (weighed_ends n times w)) 1 g some_g refl a c.den inside)
+    (encloses_ratio (weighed_ends n rest w) (divided_ends g (weighed_ends n rest w)) 1 g some_g refl b c.den outside))
 
 encloses_set : (n : ℕ) (test : ℕ → Bool) (w : ℕ → Ends) (y : ℕ → ℕ) (den : ℕ)
     → ((i : ℕ) → i < n → Encloses (w i) (y i) den)

@@ -3,7 +3,7 @@ use Rattle.std.specs.Prelude.{ℕ, Bool, if◌then◌else◌}
 use Rattle.fixed_interval.specs.Ends.{Ends, between}
 use Rattle.hyper_model.specs.Sums.{sum_below}
 
--- the interval where the test holds, else 0
+-- the interval if the test holds, else 0
 abbrev pub where_ends : Bool → Ends → Ends
 where_ends test a = between (if test then a.lo else 0) (if test then a.hi else 0)
 

@@ -6,21 +6,21 @@ use Rattle.hyper_model.specs.Sums.{sum_below}
 use Rattle.busy_words.specs.Algebra.{total_ends, where_ends}
 
 -- the sum of the weights, each times its number
-abbrev pub weighed : ℕ → (ℕ → ℕ) → (ℕ → Ends) → Ends
-weighed n times w = total_ends n (λ i. scaled_ends (times i) (w i))
+abbrev pub weighed_ends : ℕ → (ℕ → ℕ) → (ℕ → Ends) → Ends
+weighed_ends n times w = total_ends n (λ i. scaled_ends (times i) (w i))
 
 -- the same sum of numbers
 abbrev pub weighed_numbers : ℕ → (ℕ → ℕ) → (ℕ → ℕ) → ℕ
 weighed_numbers n times y = sum_below n (λ i. times i * y i)
 
 -- an interval divided by g, rounded outward
-abbrev pub divided : ℕ → Ends → Ends
-divided g a = ratio_ends a 1 g
+abbrev pub divided_ends : ℕ → Ends → Ends
+divided_ends g a = ratio_ends a 1 g
 
--- The part, in the given unit, of the weights each `times` times among all: `rest` tells how many times each
+-- The part, in the given unit, of the weights each `times` times among all: `rest` says how many times each
 -- stands in what is left, and g how many times in both.
 abbrev pub part : ℕ → ℕ → ℕ → (ℕ → ℕ) → (ℕ → ℕ) → (ℕ → Ends) → Ends
-part unit n g times rest w = share_ends unit (divided g (weighed n times w)) (divided g (weighed n rest w))
+part unit n g times rest w = share_ends unit (divided_ends g (weighed_ends n times w)) (divided_ends g (weighed_ends n rest w))
 
 -- the sum of the weights of the places that pass a test
 abbrev pub set_ends : ℕ → (ℕ → Bool) → (ℕ → Ends) → Ends

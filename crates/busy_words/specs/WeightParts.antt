@@ -6,7 +6,6 @@ use Rattle.fixed_interval.specs.WeightList.{EnclosesAll}
 use Rattle.hyper_model.specs.declared.kinds.Line.{Line}
 use Rattle.hyper_model.specs.declared.kinds.Line.TheVariants as line
 use Rattle.hyper_model.specs.declared.parts.PlanParts.{PlanParts}
-use Rattle.hyper_model.specs.Sums.{sum_below}
 use Rattle.hyper_model.specs.Plans.{units, split}
 use Rattle.hyper_model.specs.Words.{words, full_word, is_busy, takes, portion}
 use Rattle.hyper_model.specs.Solutions.{mass_in, IsSolution}
@@ -46,10 +45,6 @@ masses_by_place p order xs z = map (mass_in xs) order.words ++ tail_masses p.lin
 pub record EnclosesSolution (p : PlanParts) (order : WordOrder) (items : List Ends) (xs : List ℕ) (z : ℕ) : Type 0 where
   pub solves : IsSolution p xs z
   pub encloses : EnclosesAll items (masses_by_place p order xs z)
-
--- the mass of the states in which unit n is busy
-abbrev pub busy_mass : PlanParts → (ℕ → ℕ) → ℕ → ℕ → ℕ
-busy_mass p x z n = sum_below (words p) (λ w. if is_busy w n then x w else 0) + z
 
 -- the part of the states in which unit n is busy
 abbrev pub busy_part : PlanParts → WordOrder → (ℕ → Ends) → ℕ → Ends

@@ -1,16 +1,15 @@
 ghost use Rattle.std.specs.Prelude.{◌≡◌, ℕ, ◌+◌, ◌-◌, ◌*◌, ◌/◌, ◌^◌, ◌<◌, ◌≤◌, ◌↔◌, None, length, if◌then◌else◌};
 ghost use Rattle.hyper_model.specs.Groups.{groups_in, IsGrouped};
 ghost use Rattle.hyper_model.specs.Plans.{units, atoms, calls_of, all_calls, split, IsAccepted};
-ghost use Rattle.hyper_model.specs.Words.{first_free as first_free_in, full_word, is_taker, portion as portion_of, taker_count, takes, words};
+ghost use Rattle.hyper_model.specs.Words.{first_free as first_free_in, full_word, is_busy as is_busy_in, is_taker, portion as portion_of, taker_count, takes, words};
 ghost use Rattle.hyper_model.specs.Laws.{level as level_of};
 ghost use Rattle.hyper_model.specs.Rates.{up as rate_up};
-ghost use Rattle.busy_words.specs.Sets.{is_member};
 ghost use Rattle.busy_words.specs.WeightParts.{taken_shares};
 
 use crate::words::{is_busy, level};
-use hyper_model::{Lists, Plan};
+use hyper_model::{Lists, Plan, law_accepted};
 
-/// The first unit of the atom's list that is free in the word, or `None` where the word is full.
+/// The first unit of the atom's list that is free in the word, or `None` if the word is full.
 pub fn first_free(lists: &Lists, atom: usize, word: u16) -> Option<u8>
     requires atom { atom < length lists.now.rows }
     requires grouped { IsGrouped lists.now.units (groups_in lists.now atom) }
@@ -29,12 +28,12 @@ pub fn first_free(lists: &Lists, atom: usize, word: u16) -> Option<u8>
 
 /// The units that a call of the atom can go to in the word: the free units of the first group that has one.
 ///
-/// Bit n of the answer is set where unit n is one of them. No bit is set exactly where the word is full.
+/// They are given as the word in which only they are busy: it is 0 exactly if the word is full.
 pub fn takers(lists: &Lists, atom: usize, word: u16) -> u16
     requires atom { atom < length lists.now.rows }
     requires grouped { IsGrouped lists.now.units (groups_in lists.now atom) }
     requires word { word < 2 ^ lists.now.units }
-    ensures takers { (n : ℕ) → is_member result n ≡ is_taker (groups_in lists.now atom) word n }
+    ensures takers { (n : ℕ) → is_busy_in result n ≡ is_taker (groups_in lists.now atom) word n }
     ensures below { result < 2 ^ lists.now.units }
     ensures full { (result ≡ 0) ↔ (word ≡ 2 ^ lists.now.units - 1) }
 {
@@ -64,7 +63,7 @@ pub fn portion(plan: &Plan, atom: usize, word: u16) -> u32
     share_of(plan, takers(lists_of(plan), atom, word))
 }
 
-/// The rate at which this unit, where it is free in the word, is sent to calls, times `plan.split()`.
+/// The rate at which this unit, if it is free in the word, is sent to calls, times `plan.split()`.
 pub fn up(plan: &Plan, word: u16, unit: u8) -> u64
     requires word { word < words plan.now }
     requires unit { unit < units plan.now }
@@ -73,13 +72,13 @@ pub fn up(plan: &Plan, word: u16, unit: u8) -> u64
 {
     let mut rate = 0;
     for atom in 0..plan.atoms() {
-        rate += sent_to(plan, atom, word, unit);
+        rate += rate_of_atom(plan, atom, word, unit);
     }
     rate
 }
 
 // The part of that rate that one atom's calls have.
-fn sent_to(plan: &Plan, atom: usize, word: u16, unit: u8) -> u64
+fn rate_of_atom(plan: &Plan, atom: usize, word: u16, unit: u8) -> u64
     requires atom { atom < atoms plan.now }
     requires word { word < words plan.now }
     requires unit { unit < units plan.now }
@@ -123,6 +122,6 @@ fn lists_of(plan: &Plan) -> &Lists
     ensures lists { result.now ≡ plan.now.lists }
     ensures accepted { IsAccepted plan.now }
 {
-    let _calls = plan.calls();
+    law_accepted(plan);
     plan.lists()
 }

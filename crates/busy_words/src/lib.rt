@@ -1,15 +1,13 @@
 //! The words of a fleet: which units are busy, in the order in which they are solved, who takes a call in
 //! each of them, and the parts of a solution that its weights enclose.
 //!
-//! A word of `units` units is a `u16` below `2^units`; unit n is busy in it where bit n is set.
+//! A word of `units` units is a `u16` below `2^units`; unit n is busy in it if bit n is set.
 #![tactic(auto)]
 
 mod dispatch;
 mod orders;
 mod sharing;
 mod sums;
-#[cfg(test)]
-mod tests;
 mod words;
 
 pub use dispatch::{first_free, portion, takers, up};

@@ -1,8 +1,8 @@
 use crate::Order;
 
-fn shared<T: Send + Sync>(_value: &T) {}
+fn take_shared<T: Send + Sync>(_value: &T) {}
 
 /// An order can go from one thread to another, and be read by several.
 fn shows_shared_order(order: &Order) {
-    shared(order);
+    take_shared(order);
 }

@@ -4,16 +4,16 @@ ghost use Rattle.fixed_interval.specs.WeightList.{ends_at};
 ghost use Rattle.hyper_model.specs.Plans.{units, atoms, split, IsAccepted};
 ghost use Rattle.hyper_model.specs.Words.{is_busy as is_busy_in, full_word, words};
 ghost use Rattle.hyper_model.specs.Solutions.{mass_in};
-ghost use Rattle.hyper_model.specs.Measures.{mass, base, taken_mass};
+ghost use Rattle.hyper_model.specs.Measures.{base, busy_mass, mass, taken_mass};
 ghost use Rattle.busy_words.specs.Order.{WordOrder, word_or_full};
-ghost use Rattle.busy_words.specs.Parts.{set_ends, set_part, weighed};
-ghost use Rattle.busy_words.specs.WeightParts.{EnclosesSolution, IsOrderOf, base_places, busy_mass, busy_part as busy_part_of, full_part as full_part_of, other_shares, places, tail_part as tail_part_of, taken_part as taken_part_of, taken_shares};
+ghost use Rattle.busy_words.specs.Parts.{set_ends, set_part, weighed_ends};
+ghost use Rattle.busy_words.specs.WeightParts.{EnclosesSolution, IsOrderOf, base_places, busy_part as busy_part_of, full_part as full_part_of, other_shares, places, tail_part as tail_part_of, taken_part as taken_part_of, taken_shares};
 
 use crate::dispatch::taken_share;
 use crate::orders::Order;
 use crate::words::is_busy;
 use fixed_interval::{Iv, Weights, Wide};
-use hyper_model::{Line, Plan};
+use hyper_model::{Line, Plan, law_accepted};
 
 /// The part of the states in which all units are busy, those in which calls wait among them: the chance that a
 /// call is lost or has to wait. In units of `1 / 2^62`.
@@ -27,7 +27,7 @@ pub fn full_part(plan: &Plan, weights: &Weights) -> Iv
     part_from(weights, words_of(plan) - 1)
 }
 
-/// The part of the states in which a call waits, in units of `1 / 2^62`. It is 0 where calls are lost.
+/// The part of the states in which a call waits, in units of `1 / 2^62`. It is 0 if calls are lost.
 pub fn tail_part(plan: &Plan, weights: &Weights) -> Iv
     requires { length weights.now.items ≡ places plan.now }
     ensures ends { result ≡ tail_part_of plan.now (ends_at weights.now.items) }
@@ -53,7 +53,7 @@ pub fn busy_part(plan: &Plan, order: &Order, weights: &Weights, unit: u8) -> Iv
 
 /// The part of the answered calls of this atom that go to this unit at once, in units of `1 / 2^62`.
 ///
-/// Where calls are lost, it is taken among the states in which a unit is free, else among all states.
+/// If calls are lost, it is taken among the states in which a unit is free, else among all states.
 pub fn taken_part(plan: &Plan, order: &Order, weights: &Weights, unit: u8, atom: usize) -> Iv
     requires order { IsOrderOf plan.now order.now }
     requires one_each { length weights.now.items ≡ places plan.now }
@@ -75,7 +75,7 @@ fn split_of(plan: &Plan) -> u64
     ensures least { 1 ≤ result }
     ensures accepted { IsAccepted plan.now }
 {
-    let _calls = plan.calls();
+    law_accepted(plan);
     u64::from(plan.split())
 }
 
@@ -135,9 +135,9 @@ fn taken_sums(plan: &Plan, order: &Order, weights: &Weights, unit: u8, atom: usi
     requires one_each { length weights.now.items ≡ places plan.now }
     requires unit { unit < units plan.now }
     requires atom { atom < atoms plan.now }
-    ensures inside { result.0 ≡ weighed (base_places plan.now)
+    ensures inside { result.0 ≡ weighed_ends (base_places plan.now)
         (λ i. taken_shares plan.now unit atom (word_or_full order.now i)) (ends_at weights.now.items) }
-    ensures rest { result.1 ≡ weighed (base_places plan.now)
+    ensures rest { result.1 ≡ weighed_ends (base_places plan.now)
         (λ i. other_shares plan.now unit atom (word_or_full order.now i)) (ends_at weights.now.items) }
     ensures most { result.0.hi ≤ 4097 * (split plan.now * 2 ^ 52) }
     ensures most_rest { result.1.hi ≤ 4097 * (split plan.now * 2 ^ 52) }

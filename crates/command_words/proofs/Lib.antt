@@ -1,4 +1,4 @@
 -- lemmas, each file on one subject
-pub mod Lines
+pub mod Lists
 pub mod Once
 pub mod Worked

@@ -1,4 +1,4 @@
--- What is given once, found from the front.
+-- What stands once, found from the front.
 use Rattle.std.proofs.Common.{◌≡◌, ◌∙◌, ℕ, ◌+◌, ◌<◌, List, [], ◌∷◌, ◌++◌, length, get_or, take, drop, refl, sym, ap}
 use Rattle.std.specs.Prelude.{Option, Some, None}
 use Rattle.std.specs.List.{cons_option, filter_map}
@@ -6,7 +6,7 @@ use Rattle.std.specs.Option.{option_to_list}
 use Rattle.std.proofs.lemmas.List.{take-append-drop, take_more}
 use Rattle.std.proofs.lemmas.List.Elements.{filter_map-append}
 use Rattle.command_words.specs.Options.{once}
-use Rattle.command_words.specs.declared.options.Given.{Given}
+use Rattle.command_words.specs.declared.options.Setting.{Setting}
 
 pub list_of_once : (numbers : List ℕ) (found : Option ℕ) → once numbers ≡ Some found → numbers ≡ option_to_list found
 list_of_once [] found is = cc
@@ -18,7 +18,7 @@ once-front [] rest is = absurd (cc)
 once-front (number ∷ []) rest is = absurd (cc)
 once-front (first ∷ second ∷ numbers) rest is = refl
 
-filter_map-more : (f : Given → Option ℕ) (options : List Given) (i : ℕ) (none : Given) → i < length options
+filter_map-more : (f : Setting → Option ℕ) (options : List Setting) (i : ℕ) (none : Setting) → i < length options
     → filter_map f (take (i + 1) options) ≡ filter_map f (take i options) ++ option_to_list (f (get_or options i none))
 filter_map-more f options i none lt =
     ap (filter_map f) (take_more options i none lt)
@@ -29,7 +29,7 @@ filter_map-more f options i none lt =
     alone None = refl
     alone (Some number) = refl
 
-module _ (f : Given → Option ℕ) (options : List Given) (i : ℕ) (none : Given) (found number : Option ℕ) (lt : i < length options)
+module _ (f : Setting → Option ℕ) (options : List Setting) (i : ℕ) (none : Setting) (found number : Option ℕ) (lt : i < length options)
     (is : number ≡ f (get_or options i none)) (before : filter_map f (take i options) ≡ option_to_list found) where
   front : filter_map f (take (i + 1) options) ≡ option_to_list found ++ option_to_list number
   front =
@@ -42,7 +42,7 @@ module _ (f : Given → Option ℕ) (options : List Given) (i : ℕ) (none : Giv
       → filter_map f (take (i + 1) options) ≡ option_to_list now
   once-more now one = list_of_once (filter_map f (take (i + 1) options)) now (ap once front ∙ sym one)
 
-  -- a number behind another
+  -- a number after another
   pub once-twice : None ≡ once (option_to_list found ++ option_to_list number) → once (filter_map f options) ≡ None
   once-twice two =
       ap (λ all. once (filter_map f all)) (sym (take-append-drop (i + 1) options))

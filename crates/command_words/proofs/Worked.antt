@@ -1,79 +1,75 @@
--- Command lines and what they mean, computed.
+-- Arguments and what they mean, computed.
 use Rattle.std.proofs.Common.{◌≡◌, ℕ, [], ◌∷◌, refl}
 use Rattle.std.specs.Prelude.{true, false, Option, Some, None, codes}
 use Rattle.report_text.specs.declared.ending.Widths.{Widths}
-use Rattle.command_words.specs.Command.{command, compare_of, make_of, solve_of}
+use Rattle.command_words.specs.Command.{command, compare_of, solve_of}
 use Rattle.command_words.specs.Options.{options_of}
-use Rattle.command_words.specs.Words.{free_word, line_from, long_word}
-use Rattle.command_words.specs.declared.command.Command.TheVariants.{Solve, Compare, Make}
+use Rattle.command_words.specs.Arguments.{free_argument, lists_from, long_argument}
+use Rattle.command_words.specs.declared.command.Command.TheVariants.{Solve, Compare}
 
 abbrev widths : Option ℕ → Option ℕ → Widths
 widths share time = record { share = share; time = time }
 
 file_alone : command (codes "solve" ∷ codes "a.csv" ∷ []) ≡ Some (Solve (codes "a.csv") (widths None None) 1 false)
-unfolding line_from free_word long_word options_of solve_of
+unfolding lists_from free_argument long_argument options_of solve_of
 file_alone = refl
 
-flag_before_the_plain_words : command (codes "--summary" ∷ codes "solve" ∷ codes "a.csv" ∷ [])
+flag_before_the_plain_arguments : command (codes "--summary" ∷ codes "solve" ∷ codes "a.csv" ∷ [])
     ≡ Some (Solve (codes "a.csv") (widths None None) 1 true)
-unfolding line_from free_word long_word options_of solve_of
-flag_before_the_plain_words = refl
+unfolding lists_from free_argument long_argument options_of solve_of
+flag_before_the_plain_arguments = refl
 
-width_behind_its_name : command (codes "solve" ∷ codes "a.csv" ∷ codes "--width" ∷ codes "2" ∷ [])
+width_after_its_name : command (codes "solve" ∷ codes "a.csv" ∷ codes "--width" ∷ codes "2" ∷ [])
     ≡ Some (Solve (codes "a.csv") (widths (Some 2) None) 1 false)
-unfolding line_from free_word long_word options_of solve_of
-width_behind_its_name = refl
+unfolding lists_from free_argument long_argument options_of solve_of
+width_after_its_name = refl
 
-values_in_their_words : command (codes "--workers=16" ∷ codes "compare" ∷ codes "s.toml" ∷ codes "--time-width=010" ∷ [])
+values_in_their_arguments : command (codes "--workers=16" ∷ codes "compare" ∷ codes "s.toml" ∷ codes "--time-width=010" ∷ [])
     ≡ Some (Compare (codes "s.toml") (widths None (Some 10)) 16)
-unfolding line_from free_word long_word options_of compare_of
-values_in_their_words = refl
+unfolding lists_from free_argument long_argument options_of compare_of
+values_in_their_arguments = refl
 
-dash_behind_dashes : command (codes "solve" ∷ codes "--" ∷ codes "-x.csv" ∷ [])
+dash_after_dashes : command (codes "solve" ∷ codes "--" ∷ codes "-x.csv" ∷ [])
     ≡ Some (Solve (codes "-x.csv") (widths None None) 1 false)
-unfolding line_from free_word long_word options_of solve_of
-dash_behind_dashes = refl
+unfolding lists_from free_argument long_argument options_of solve_of
+dash_after_dashes = refl
 
 dash_alone : command (codes "solve" ∷ codes "-" ∷ []) ≡ Some (Solve (codes "-") (widths None None) 1 false)
-unfolding line_from free_word long_word options_of solve_of
+unfolding lists_from free_argument long_argument options_of solve_of
 dash_alone = refl
 
-leading_zero : command (codes "make" ∷ codes "02" ∷ codes "0" ∷ []) ≡ Some (Make 2 0)
-unfolding line_from free_word long_word make_of
-leading_zero = refl
-
 width_of_one : command (codes "solve" ∷ codes "a.csv" ∷ codes "--width" ∷ codes "1" ∷ []) ≡ None
-unfolding line_from free_word long_word options_of solve_of
+unfolding lists_from free_argument long_argument options_of solve_of
 width_of_one = refl
 
 width_twice : command (codes "solve" ∷ codes "a.csv" ∷ codes "--width=5" ∷ codes "--width" ∷ codes "6" ∷ []) ≡ None
-unfolding line_from free_word long_word options_of solve_of
+unfolding lists_from free_argument long_argument options_of solve_of
 width_twice = refl
 
 name_as_value : command (codes "solve" ∷ codes "a.csv" ∷ codes "--width" ∷ codes "--summary" ∷ []) ≡ None
-unfolding line_from free_word long_word options_of solve_of
+unfolding lists_from free_argument long_argument options_of solve_of
 name_as_value = refl
 
 no_value : command (codes "solve" ∷ codes "a.csv" ∷ codes "--width" ∷ []) ≡ None
-unfolding line_from free_word long_word options_of solve_of
+unfolding lists_from free_argument long_argument options_of solve_of
 no_value = refl
 
 flag_with_a_value : command (codes "solve" ∷ codes "a.csv" ∷ codes "--summary=" ∷ []) ≡ None
-unfolding line_from free_word long_word options_of solve_of
+unfolding lists_from free_argument long_argument options_of solve_of
 flag_with_a_value = refl
 
 unknown_option : command (codes "solve" ∷ codes "a.csv" ∷ codes "-x" ∷ []) ≡ None
-unfolding line_from free_word long_word options_of solve_of
+unfolding lists_from free_argument long_argument options_of solve_of
 unknown_option = refl
 
 seventeen_workers : command (codes "solve" ∷ codes "a.csv" ∷ codes "--workers" ∷ codes "17" ∷ []) ≡ None
-unfolding line_from free_word long_word options_of solve_of
+unfolding lists_from free_argument long_argument options_of solve_of
 seventeen_workers = refl
 
-option_of_another_command : command (codes "make" ∷ codes "2" ∷ codes "0" ∷ codes "--workers" ∷ codes "1" ∷ []) ≡ None
-unfolding line_from free_word long_word options_of make_of
+option_of_another_command : command (codes "compare" ∷ codes "s.toml" ∷ codes "--summary" ∷ []) ≡ None
+unfolding lists_from free_argument long_argument options_of compare_of
 option_of_another_command = refl
 
 nothing_to_do : command [] ≡ None
-unfolding line_from
+unfolding lists_from
 nothing_to_do = refl

@@ -1,4 +1,4 @@
 pub mod Numbers
 pub mod Options
-pub mod Words
+pub mod Arguments
 pub mod Command

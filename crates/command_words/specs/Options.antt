@@ -3,32 +3,32 @@ use Rattle.std.specs.Prelude.{ℕ, ◌≤◌, Bool, true, false, ◌&&◌, if◌
 use Rattle.std.specs.List.{filter_map}
 use Rattle.std.specs.Option.{option_map, unwrap_or}
 use Rattle.command_words.specs.Numbers.{number_in}
-use Rattle.command_words.specs.declared.options.Given.{Given}
-use Rattle.command_words.specs.declared.options.Given.TheVariants as given
+use Rattle.command_words.specs.declared.options.Setting.{Setting}
+use Rattle.command_words.specs.declared.options.Setting.TheVariants as setting
 use Rattle.command_words.specs.declared.options.Key.{Key}
 use Rattle.command_words.specs.declared.options.Key.TheVariants as key
 use Rattle.command_words.specs.declared.options.Options.{Options}
 
 infixl 10 ◌>>=◌
--- the next step, where there was something to go on with
+-- the next step, if there is something to go on with
 abbrev pub ◌>>=◌ : {A B : Type 0} → Option A → (A → Option B) → Option B
 found >>= next = option_and_then next found
 
-abbrev pub with_number : Key → ℕ → Given
-with_number key.Width number = given.Width number
-with_number key.TimeWidth number = given.TimeWidth number
-with_number key.Workers number = given.Workers number
+abbrev pub setting_of : Key → ℕ → Setting
+setting_of key.Width number = setting.Width number
+setting_of key.TimeWidth number = setting.TimeWidth number
+setting_of key.Workers number = setting.Workers number
 
--- the option with this value, which has one to nine digits
-abbrev pub given_by : Key → List ℕ → Option Given
-given_by k value = option_map (with_number k) (number_in 9 value)
+-- the option with this value, a number of one to nine digits
+abbrev pub setting_in : Key → List ℕ → Option Setting
+setting_in k value = option_map (setting_of k) (number_in 9 value)
 
--- the number given to this option, where it is this option
-abbrev pub number_of : Key → Given → Option ℕ
-number_of key.Width (given.Width number) = Some number
-number_of key.TimeWidth (given.TimeWidth number) = Some number
-number_of key.Workers (given.Workers number) = Some number
-number_of k g = None
+-- the number of the setting, if it is one of this option
+abbrev pub number_of : Key → Setting → Option ℕ
+number_of key.Width (setting.Width number) = Some number
+number_of key.TimeWidth (setting.TimeWidth number) = Some number
+number_of key.Workers (setting.Workers number) = Some number
+number_of k s = None
 
 -- what is there, if it is there at most once
 abbrev pub once : List ℕ → Option (Option ℕ)
@@ -36,19 +36,19 @@ once [] = Some None
 once (number ∷ []) = Some (Some number)
 once numbers = None
 
-abbrev pub number_once : Key → List Given → Option (Option ℕ)
-number_once k options = once (filter_map (number_of k) options)
+abbrev pub number_once : Key → List Setting → Option (Option ℕ)
+number_once k settings = once (filter_map (number_of k) settings)
 
-abbrev pub is_summary : Given → Bool
-is_summary given.Summary = true
-is_summary g = false
+abbrev pub is_summary : Setting → Bool
+is_summary setting.Summary = true
+is_summary s = false
 
 -- whether the flag is there, if it is there at most once
-abbrev pub summary_once : List Given → Option Bool
-summary_once options =
-    let count = count_by is_summary options in if nat_le count 1 then Some (count == 1) else None
+abbrev pub summary_once : List Setting → Option Bool
+summary_once settings =
+    let count = count_by is_summary settings in if nat_le count 1 then Some (count == 1) else None
 
--- a width, where one is asked for, is at least 2
+-- a width, if one is asked for, is at least 2
 abbrev pub may_be_width : Option ℕ → Bool
 may_be_width None = true
 may_be_width (Some width) = nat_le 2 width
@@ -67,11 +67,11 @@ are_possible options =
 abbrev pub if_possible : Options → Option Options
 if_possible options = if are_possible options then Some options else None
 
--- each option is given at most once, and there is one worker where no number of workers is given
-unfoldable pub options_of : List Given → Option Options
-options_of options = do
-  share ← number_once key.Width options
-  time ← number_once key.TimeWidth options
-  workers ← number_once key.Workers options
-  summary ← summary_once options
+-- each option stands at most once, and there is one worker if no number of workers is asked for
+unfoldable pub options_of : List Setting → Option Options
+options_of settings = do
+  share ← number_once key.Width settings
+  time ← number_once key.TimeWidth settings
+  workers ← number_once key.Workers settings
+  summary ← summary_once settings
   if_possible (record { widths = record { share = share; time = time }; workers = unwrap_or workers 1; summary = summary })

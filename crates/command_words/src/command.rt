@@ -1,6 +1,10 @@
 use crate::Name255;
 use report_text::Widths;
 
+/// What is written if the arguments are no command.
+pub const USAGE: &str =
+    "usage: hypercube solve FILE | compare STUDY | make UNITS NUMBER [--width W] [--time-width W] [--workers N] [--summary]\n";
+
 /// What the program is asked to do.
 #[derive(Debug, Drop, PartialEq, Eq)]
 pub enum Command {
@@ -33,7 +37,7 @@ pub enum Command {
     },
 }
 
-/// Why words gave no [`Command`].
+/// Why arguments gave no [`Command`].
 #[derive(Clone, Copy, Debug, PartialEq, Eq)]
 pub enum WordsEnd {
     /// They are no command.

@@ -1,16 +1,14 @@
-//! The command that the words of the command line give.
+//! The command that the arguments of the program give.
 #![tactic(auto)]
 
+mod argument;
+mod argument_lists;
 mod command;
 mod name;
 mod number;
 mod options;
 mod reading;
-mod said;
-#[cfg(test)]
-mod tests;
-mod word;
 
-pub use command::{Command, WordsEnd};
+pub use command::{Command, USAGE, WordsEnd};
 pub use name::Name255;
 pub use reading::read_words;

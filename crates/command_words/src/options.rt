@@ -23,16 +23,16 @@ pub(crate) enum Key {
     Workers,
 }
 
-/// An option as it was given.
+/// An option with its value.
 #[derive(Clone, Copy, Debug, PartialEq, Eq)]
-pub(crate) enum Given {
+pub(crate) enum Setting {
     Width(u32),
     TimeWidth(u32),
     Workers(u32),
     Summary,
 }
 
-/// What the options of a command line ask for together.
+/// What the options of a command ask for together.
 #[derive(Clone, Copy, Debug, PartialEq, Eq)]
 pub(crate) struct Options {
     pub widths: Widths,
@@ -42,42 +42,42 @@ pub(crate) struct Options {
 
 impl Key {
     /// The option with this value, which is a number of one to nine digits.
-    pub fn given(self, value: &str) -> Option<Given>
-        ensures { result ≡ spec.given_by self value.now }
+    pub fn setting(self, value: &str) -> Option<Setting>
+        ensures { result ≡ spec.setting_in self value.now }
     {
         let number = number_of(value, MOST_VALUE_DIGITS)? as u32;
         Some(match self {
-            Key::Width => Given::Width(number),
-            Key::TimeWidth => Given::TimeWidth(number),
-            Key::Workers => Given::Workers(number),
+            Key::Width => Setting::Width(number),
+            Key::TimeWidth => Setting::TimeWidth(number),
+            Key::Workers => Setting::Workers(number),
         })
     }
 }
 
-impl Given {
-    /// The number given to this option, where it is this option.
+impl Setting {
+    /// Its number, if it is this option.
     fn number(self, key: Key) -> Option<u32>
         ensures { result ≡ spec.number_of key self }
     {
         match (key, self) {
-            (Key::Width, Given::Width(number)) => Some(number),
-            (Key::TimeWidth, Given::TimeWidth(number)) => Some(number),
-            (Key::Workers, Given::Workers(number)) => Some(number),
+            (Key::Width, Setting::Width(number)) => Some(number),
+            (Key::TimeWidth, Setting::TimeWidth(number)) => Some(number),
+            (Key::Workers, Setting::Workers(number)) => Some(number),
             _ => None,
         }
     }
 }
 
-/// What the given options ask for: nothing where one of them is given twice, or asks for what cannot be.
+/// What options ask for together: nothing if one of them stands twice, or asks for what cannot be.
 #[tactic(auto, unfolding(crate::specs::Options::options_of))]
-pub(crate) fn options_of(given: &[Given]) -> Option<Options>
-    ensures options { result ≡ spec.options_of given.now }
+pub(crate) fn options_of(settings: &[Setting]) -> Option<Options>
+    ensures options { result ≡ spec.options_of settings.now }
     ensures workers { IfSome result (λ options. AreWorkers options.workers) }
 {
-    let share = number_once(given, Key::Width)?;
-    let time = number_once(given, Key::TimeWidth)?;
-    let workers = number_once(given, Key::Workers)?.unwrap_or(1);
-    let summary = summary_once(given)?;
+    let share = number_once(settings, Key::Width)?;
+    let time = number_once(settings, Key::TimeWidth)?;
+    let workers = number_once(settings, Key::Workers)?.unwrap_or(1);
+    let summary = summary_once(settings)?;
     if !may_be_width(share) || !may_be_width(time) || !are_workers(workers) {
         return None;
     }
@@ -104,12 +104,12 @@ fn are_workers(workers: u32) -> bool
     1 <= workers && workers <= MOST_WORKERS
 }
 
-fn number_once(given: &[Given], key: Key) -> Option<Option<u32>>
-    ensures { result ≡ spec.number_once key given.now }
+fn number_once(settings: &[Setting], key: Key) -> Option<Option<u32>>
+    ensures { result ≡ spec.number_once key settings.now }
 {
     let mut found = None;
-    for option in given {
-        found = at_most_one(found, option.number(key))?;
+    for setting in settings {
+        found = at_most_one(found, setting.number(key))?;
     }
     Some(found)
 }
@@ -124,15 +124,18 @@ fn at_most_one(first: Option<u32>, second: Option<u32>) -> Option<Option<u32>>
     }
 }
 
-fn summary_once(given: &[Given]) -> Option<bool>
-    ensures { result ≡ spec.summary_once given.now }
+fn summary_once(settings: &[Setting]) -> Option<bool>
+    ensures { result ≡ spec.summary_once settings.now }
 {
-    let count = given.iter().filter(|option| is_summary(**option)).count();
+    let count = settings
+        .iter()
+        .filter(|setting| is_summary(**setting))
+        .count();
     (count <= 1).then_some(count == 1)
 }
 
-fn is_summary(given: Given) -> bool
-    ensures { result ≡ spec.is_summary given }
+fn is_summary(setting: Setting) -> bool
+    ensures { result ≡ spec.is_summary setting }
 {
-    matches!(given, Given::Summary)
+    matches!(setting, Setting::Summary)
 }

@@ -1,5 +1,5 @@
 -- For every solution that has these parts, each measure of dispatches lies between its ends.
-use Rattle.std.proofs.Common.{◌≡◌, ℕ, ◌+◌, ◌*◌, ◌^◌, ◌<◌, ◌≤◌, Bool, true, false, not, cond, eqb, List, All, refl, sym, ap, subst, ◌∙◌, arith, add_comm}
+use Rattle.std.proofs.Common.{◌≡◌, ℕ, ◌+◌, ◌*◌, ◌^◌, ◌<◌, ◌≤◌, Bool, true, false, not, cond, eqb, List, ◌++◌, All, refl, sym, ap, subst, ◌∙◌, arith, add_comm}
 use Rattle.std.proofs.Math.Nat.{mul-le-mul_right}
 use Rattle.std.proofs.lemmas.List.Elements.{All-cons, All-append}
 use Rattle.std.specs.List.{range_with_len}
@@ -8,40 +8,35 @@ use Rattle.fixed_interval.specs.Ends.{Ends, Encloses, exact_ends, scaled_ends, s
 use Rattle.hyper_model.specs.declared.kinds.Measure.{Measure}
 use Rattle.hyper_model.specs.declared.kinds.Measure.TheVariants as measure
 use Rattle.hyper_model.specs.declared.kinds.Found.TheVariants as found
+use Rattle.hyper_model.specs.declared.kinds.Enclosed.{Enclosed}
 use Rattle.hyper_model.specs.declared.parts.PlanParts.{PlanParts}
 use Rattle.hyper_model.specs.Sums.{sum_below}
 use Rattle.hyper_model.specs.Plans.{units, atoms, service_of, calls_of, all_calls, all_service, is_inside, district_calls, split}
 use Rattle.hyper_model.specs.Solutions.{mass_in}
-use Rattle.hyper_model.specs.Measures.{queued_mass, base, taken_mass, dispatch_flow, dispatch_flow_inside, dispatch_flow_outside, dispatch_flow_by, ContainsRatio, measure_of, is_without, scale_of, IsFoundOf, IsContained}
-use Rattle.hyper_model.proofs.Sums.{sum-same, sum-add, sum-scaled, sum-at, sum_split, place_le_sum, cond_scaled}
+use Rattle.hyper_model.specs.Measures.{queued_mass, base, taken_mass, dispatch_flow, dispatch_flow_inside, dispatch_flow_outside, dispatch_flow_by, ContainsRatio, measure_of, is_without, scale_of, IsFoundOf, IsInRange, IsContained, AreContained}
+use Rattle.hyper_model.proofs.Sums.{sum-same, sum-add, sum-scaled, sum-at, sum_split, place_le_sum, choices_scaled}
 use Rattle.hyper_model.proofs.Masses.{dispatched_to_atom, dispatched_parts}
 use Rattle.busy_words.specs.Algebra.{where_ends}
+use Rattle.busy_words.specs.MeasureEnds.{found_ends}
+use Rattle.busy_words.proofs.MeasureEnds.{contains_ratio}
 use Rattle.busy_words.proofs.Algebra.{encloses_total, encloses_where}
 use Rattle.dispatch_fractions.specs.PartLists.{PartList, taken_by, help_of, HasParts}
-use Rattle.dispatch_fractions.specs.Fractions.{ends_found, sent_ends, is_on_side, side_ends, region_ends, others_ends, fraction_of, unit_fractions, fractions_of, region_share, unit_share, district_share, interdistrict_of, AreContained, IsOfPlan, is_absent, HasEndsOnly}
-use Rattle.dispatch_fractions.proofs.FlowEnds.{contains_from, sent_is, fraction_is, share_is}
-use Rattle.dispatch_fractions.proofs.Ranges.{all_range, all_flat}
-
--- a factor of the addends that pass a test is one of their sum
-choice_scaled : (n k : ℕ) (test : ℕ → Bool) (f : ℕ → ℕ)
-    → sum_below n (λ i. cond (test i) (k * f i) 0) ≡ k * sum_below n (λ i. cond (test i) (f i) 0)
-choice_scaled n k test f =
-    sum-same n (λ i. cond (test i) (k * f i) 0) (λ i. k * cond (test i) (f i) 0)
-    (λ i l. sym (cond_scaled (test i) k (f i)))
-    ∙ sum-scaled n k (λ i. cond (test i) (f i) 0)
+use Rattle.dispatch_fractions.specs.Fractions.{flow_ends, is_on_side, side_ends, region_ends, others_ends, fraction_of, unit_fractions, fractions_of, region_share, unit_share, district_share, interdistrict_of, is_absent, HasEndsOnly}
+use Rattle.dispatch_fractions.proofs.FlowEnds.{flow_is, fraction_is, share_is}
+use Rattle.hyper_model.proofs.Ranges.{all_range, all_flat}
 
 turned_round : (b : Bool) (k : ℕ) → cond (not b) k 0 ≡ cond b 0 k
 turned_round true k = refl
 turned_round false k = refl
 
--- a measure that has ends exactly where it has a value
+-- a measure that has ends exactly if it has a value
 pub found_where : (p : PlanParts) (x : ℕ → ℕ) (z : ℕ) (m : Measure) (b : Bool) (i : Ends) → is_without p m ≡ b
     → ContainsRatio i.lo i.hi (scale_of m) (measure_of p x z m)
-    → IsFoundOf p x z m (cond b found.Without (ends_found i))
+    → IsFoundOf p x z m (cond b found.Without (found_ends i))
 found_where p x z m true i is h = is
 found_where p x z m false i is h = (is, h)
 
-pub absent_where : (b : Bool) (i : Ends) → is_absent (cond b found.Without (ends_found i)) ≡ b
+pub absent_where : (b : Bool) (i : Ends) → is_absent (cond b found.Without (found_ends i)) ≡ b
 absent_where true i = refl
 absent_where false i = refl
 
@@ -56,10 +51,10 @@ module _ (p : PlanParts) (xs : List ℕ) (z : ℕ) (parts : PartList) (h : HasPa
   abbrev whole : ℕ
   whole = all_service p * split p * base p (mass_in xs) z
 
-  sent_holds : (n j : ℕ) → n < units p → j < atoms p
-      → Encloses (sent_ends p parts n j) (2 ^ 62 * dispatch_flow p (mass_in xs) z n j) whole
-  sent_holds n j l k =
-      sent_is (taken_by parts n j) (help_of parts n) (calls_of p j) (all_service p) (split p)
+  flow_holds : (n j : ℕ) → n < units p → j < atoms p
+      → Encloses (flow_ends p parts n j) (2 ^ 62 * dispatch_flow p (mass_in xs) z n j) whole
+  flow_holds n j l k =
+      flow_is (taken_by parts n j) (help_of parts n) (calls_of p j) (all_service p) (split p)
       (taken_mass p (mass_in xs) n j) (service_of p n) (queued_mass p (mass_in xs) z) (base p (mass_in xs) z)
       (h.taken n j l k) (h.help n l)
 
@@ -75,12 +70,12 @@ module _ (p : PlanParts) (xs : List ℕ) (z : ℕ) (parts : PartList) (h : HasPa
   fraction_contained : (n j : ℕ) → n < units p → j < atoms p → IsContained p (mass_in xs) z (fraction_of p parts n j)
   fraction_contained n j l k = (
     refl,
-    contains_from
-        (quotient_ends (scaled_ends 1000000 (sent_ends p parts n j)) (exact_ends (all_calls p * 2 ^ 62)) 1000000) 1000000
+    contains_ratio
+        (quotient_ends (scaled_ends 1000000 (flow_ends p parts n j)) (exact_ends (all_calls p * 2 ^ 62)) 1000000) 1000000
         (dispatch_flow p (mass_in xs) z n j) (all_calls p * whole) (measure_of p (mass_in xs) z (measure.Dispatch n j)) refl
         (times_grouped (all_calls p) (all_service p) (split p) (base p (mass_in xs) z))
-        (fraction_is (sent_ends p parts n j) (all_calls p) (dispatch_flow p (mass_in xs) z n j) whole (part_of_calls n j l k)
-        (sent_holds n j l k)),
+        (fraction_is (flow_ends p parts n j) (all_calls p) (dispatch_flow p (mass_in xs) z n j) whole (part_of_calls n j l k)
+        (flow_holds n j l k)),
   )
 
   abbrev side_flow : Bool → ℕ → ℕ → ℕ
@@ -90,11 +85,11 @@ module _ (p : PlanParts) (xs : List ℕ) (z : ℕ) (parts : PartList) (h : HasPa
       → Encloses (side_ends p parts inside n m) (2 ^ 62 * side_flow inside n m) whole
   side_holds inside n m l =
       subst (λ k. Encloses (side_ends p parts inside n m) k whole)
-      (choice_scaled (atoms p) (2 ^ 62) (is_on_side p m inside) (dispatch_flow p (mass_in xs) z n))
-      (encloses_total (atoms p) (λ j. where_ends (is_on_side p m inside j) (sent_ends p parts n j))
+      (choices_scaled (atoms p) (2 ^ 62) (is_on_side p m inside) (dispatch_flow p (mass_in xs) z n))
+      (encloses_total (atoms p) (λ j. where_ends (is_on_side p m inside j) (flow_ends p parts n j))
       (λ j. cond (is_on_side p m inside j) (2 ^ 62 * dispatch_flow p (mass_in xs) z n j) 0) whole
-      (λ j k. encloses_where (is_on_side p m inside j) (sent_ends p parts n j) (2 ^ 62 * dispatch_flow p (mass_in xs) z n j) whole
-      (λ on. sent_holds n j l k)))
+      (λ j k. encloses_where (is_on_side p m inside j) (flow_ends p parts n j) (2 ^ 62 * dispatch_flow p (mass_in xs) z n j) whole
+      (λ on. flow_holds n j l k)))
 
   inside_holds : (n m : ℕ) → n < units p
       → Encloses (side_ends p parts true n m) (2 ^ 62 * dispatch_flow_inside p (mass_in xs) z n m) whole
@@ -118,7 +113,7 @@ module _ (p : PlanParts) (xs : List ℕ) (z : ℕ) (parts : PartList) (h : HasPa
   unit_contained : (n : ℕ) → n < units p → IsContained p (mass_in xs) z (unit_share p parts n)
   unit_contained n l = (
     refl,
-    contains_from (share_ends 1000000 (side_ends p parts false n n) (side_ends p parts true n n)) 1000000
+    contains_ratio (share_ends 1000000 (side_ends p parts false n n) (side_ends p parts true n n)) 1000000
         (dispatch_flow_outside p (mass_in xs) z n n)
         (dispatch_flow_outside p (mass_in xs) z n n + dispatch_flow_inside p (mass_in xs) z n n)
         (measure_of p (mass_in xs) z (measure.InterdistrictUnit n)) refl (both_sides n)
@@ -145,7 +140,7 @@ module _ (p : PlanParts) (xs : List ℕ) (z : ℕ) (parts : PartList) (h : HasPa
   region_contained : IsContained p (mass_in xs) z (region_share p parts)
   region_contained = (
     refl,
-    contains_from (share_ends 1000000 (region_ends p parts false) (region_ends p parts true)) 1000000
+    contains_ratio (share_ends 1000000 (region_ends p parts false) (region_ends p parts true)) 1000000
         (sum_below (units p) (λ n. dispatch_flow_outside p (mass_in xs) z n n))
         (sum_below (units p) (λ n. dispatch_flow_outside p (mass_in xs) z n n)
         + sum_below (units p) (λ n. dispatch_flow_inside p (mass_in xs) z n n))
@@ -170,7 +165,7 @@ module _ (p : PlanParts) (xs : List ℕ) (z : ℕ) (parts : PartList) (h : HasPa
   others_hold : (n : ℕ) → Encloses (others_ends p parts n) (2 ^ 62 * others_flow n) whole
   others_hold n =
       subst (λ k. Encloses (others_ends p parts n) k whole)
-      (choice_scaled (units p) (2 ^ 62) (λ m. not (eqb m n)) (λ m. dispatch_flow_inside p (mass_in xs) z m n)
+      (choices_scaled (units p) (2 ^ 62) (λ m. not (eqb m n)) (λ m. dispatch_flow_inside p (mass_in xs) z m n)
       ∙ ap (λ k. 2 ^ 62 * k) (others_same n))
       (encloses_total (units p) (λ m. where_ends (not (eqb m n)) (side_ends p parts true m n))
       (λ m. cond (not (eqb m n)) (2 ^ 62 * dispatch_flow_inside p (mass_in xs) z m n) 0) whole
@@ -192,47 +187,44 @@ module _ (p : PlanParts) (xs : List ℕ) (z : ℕ) (parts : PartList) (h : HasPa
   district_contained n l =
       found_where p (mass_in xs) z (measure.InterdistrictDistrict n) (eqb (district_calls p n) 0)
       (share_ends 1000000 (others_ends p parts n) (side_ends p parts true n n)) refl
-      (contains_from (share_ends 1000000 (others_ends p parts n) (side_ends p parts true n n)) 1000000 (others_flow n)
+      (contains_ratio (share_ends 1000000 (others_ends p parts n) (side_ends p parts true n n)) 1000000 (others_flow n)
       (others_flow n + dispatch_flow_inside p (mass_in xs) z n n)
       (measure_of p (mass_in xs) z (measure.InterdistrictDistrict n)) refl (all_units n l)
       (share_is (others_ends p parts n) (side_ends p parts true n n) 1000000 (others_flow n)
       (dispatch_flow_inside p (mass_in xs) z n n) whole (others_hold n) (inside_holds n n l)))
 
-pub fractions_contained : (p : PlanParts) (parts : PartList) → AreContained p parts (fractions_of p parts)
-fractions_contained p parts xs z h =
-    all_flat (IsContained p (mass_in xs) z) (unit_fractions p parts) (units p)
-    (λ n l. all_range (IsContained p (mass_in xs) z) (fraction_of p parts n) (atoms p)
-    (λ j k. fraction_contained p xs z parts h n j l k))
+-- what holds of each fraction and of each share holds of all
+all_dispatches : (P : Enclosed → Type 0) (p : PlanParts) (parts : PartList)
+    → ((n j : ℕ) → n < units p → j < atoms p → P (fraction_of p parts n j)) → P (region_share p parts)
+    → ((n : ℕ) → n < units p → P (unit_share p parts n)) → ((n : ℕ) → n < units p → P (district_share p parts n))
+    → All P (fractions_of p parts ++ interdistrict_of p parts)
+all_dispatches P p parts fractions region of_units of_districts =
+    let by_unit = map (unit_share p parts) (range_with_len 0 (units p)) in
+    let by_district = map (district_share p parts) (range_with_len 0 (units p)) in
+    All-append P (fractions_of p parts) (interdistrict_of p parts)
+    (all_flat P (unit_fractions p parts) (units p)
+    (λ n l. all_range P (fraction_of p parts n) (atoms p) (λ j k. fractions n j l k)))
+    (All-cons P (region_share p parts) (by_unit ++ by_district) region
+    (All-append P by_unit by_district (all_range P (unit_share p parts) (units p) of_units)
+    (all_range P (district_share p parts) (units p) of_districts)))
 
-pub interdistrict_contained : (p : PlanParts) (parts : PartList) → AreContained p parts (interdistrict_of p parts)
-interdistrict_contained p parts xs z h =
-    All-cons (IsContained p (mass_in xs) z) (region_share p parts) _ (region_contained p xs z parts h)
-    (All-append (IsContained p (mass_in xs) z) (map (unit_share p parts) (range_with_len 0 (units p)))
-    (map (district_share p parts) (range_with_len 0 (units p)))
-    (all_range (IsContained p (mass_in xs) z) (unit_share p parts) (units p) (unit_contained p xs z parts h))
-    (all_range (IsContained p (mass_in xs) z) (district_share p parts) (units p) (district_contained p xs z parts h)))
+pub dispatches_contained : (p : PlanParts) (parts : PartList) (xs : List ℕ) (z : ℕ) → HasParts p xs z parts
+    → AreContained p (mass_in xs) z (fractions_of p parts ++ interdistrict_of p parts)
+dispatches_contained p parts xs z h =
+    all_dispatches (IsContained p (mass_in xs) z) p parts (fraction_contained p xs z parts h)
+    (region_contained p xs z parts h) (unit_contained p xs z parts h) (district_contained p xs z parts h)
 
 -- the measures are the plan's
-pub fractions_in_range : (p : PlanParts) (parts : PartList) → All (IsOfPlan p) (fractions_of p parts)
-fractions_in_range p parts =
-    all_flat (IsOfPlan p) (unit_fractions p parts) (units p)
-    (λ n l. all_range (IsOfPlan p) (fraction_of p parts n) (atoms p) (λ j k. (l, k)))
-
-pub interdistrict_in_range : (p : PlanParts) (parts : PartList) → All (IsOfPlan p) (interdistrict_of p parts)
-interdistrict_in_range p parts =
-    All-cons (IsOfPlan p) (region_share p parts) _ tt
-    (All-append (IsOfPlan p) (map (unit_share p parts) (range_with_len 0 (units p)))
-    (map (district_share p parts) (range_with_len 0 (units p)))
-    (all_range (IsOfPlan p) (unit_share p parts) (units p) (λ n l. l))
-    (all_range (IsOfPlan p) (district_share p parts) (units p) (λ n l. l)))
+pub dispatches_in_range : (p : PlanParts) (parts : PartList)
+    → All (λ e. IsInRange p e.measure) (fractions_of p parts ++ interdistrict_of p parts)
+dispatches_in_range p parts =
+    all_dispatches (λ e. IsInRange p e.measure) p parts (λ n j l k. (l, k)) tt (λ n l. l) (λ n l. l)
 
 -- and none is without ends but those of districts without calls
-pub interdistrict_without : (p : PlanParts) (parts : PartList) → All (HasEndsOnly p) (interdistrict_of p parts)
-interdistrict_without p parts =
-    All-cons (HasEndsOnly p) (region_share p parts) _ refl
-    (All-append (HasEndsOnly p) (map (unit_share p parts) (range_with_len 0 (units p)))
-    (map (district_share p parts) (range_with_len 0 (units p)))
-    (all_range (HasEndsOnly p) (unit_share p parts) (units p) (λ n l. refl))
-    (all_range (HasEndsOnly p) (district_share p parts) (units p) (λ n l.
+pub dispatches_without : (p : PlanParts) (parts : PartList)
+    → All (HasEndsOnly p) (fractions_of p parts ++ interdistrict_of p parts)
+dispatches_without p parts =
+    all_dispatches (HasEndsOnly p) p parts (λ n j l k. refl) refl (λ n l. refl)
+    (λ n l.
     absent_where (eqb (district_calls p n) 0)
-    (share_ends 1000000 (others_ends p parts n) (side_ends p parts true n n)))))
+    (share_ends 1000000 (others_ends p parts n) (side_ends p parts true n n)))

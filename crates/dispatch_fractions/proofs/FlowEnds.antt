@@ -2,19 +2,12 @@
 use Rattle.std.proofs.Common.{◌≡◌, ℕ, ◌+◌, ◌*◌, ◌^◌, ◌≤◌, refl, subst, arith}
 use Rattle.fixed_interval.specs.Ends.{Ends, Encloses, exact_ends, plus_ends, scaled_ends, share_ends, quotient_ends}
 use Rattle.fixed_interval.proofs.Rounding.{encloses_same, encloses_times, encloses_exact, encloses_plus, encloses_scaled, encloses_share, encloses_quotient}
-use Rattle.hyper_model.specs.Measures.{Ratio, ContainsRatio}
-
--- the ends of a measure are those of an interval that contains it in its last printed digit
-pub contains_from : (i : Ends) (scale num den : ℕ) (r : Ratio) → num ≡ r.numerator → den ≡ r.denominator
-    → Encloses i (scale * num) den → ContainsRatio i.lo i.hi scale r
-contains_from i scale num den r same_num same_den e =
-    record { least = rw (← same_num, ← same_den) e.low; most = rw (← same_num, ← same_den) e.high }
 
 -- c calls, of which t of g * b are taken at once, and s of m of the l of b that wait
-pub sent_is : (taken help : Ends) (c m g t s l b : ℕ) → Encloses taken (2 ^ 62 * t) (g * b)
+pub flow_is : (taken help : Ends) (c m g t s l b : ℕ) → Encloses taken (2 ^ 62 * t) (g * b)
     → Encloses help (2 ^ 62 * l * s) (m * b)
     → Encloses (scaled_ends c (plus_ends taken help)) (2 ^ 62 * (c * (m * t + g * s * l))) (m * g * b)
-sent_is taken help c m g t s l b at_once waited =
+flow_is taken help c m g t s l b at_once waited =
     let first = encloses_times taken m (2 ^ 62 * t) (g * b) (m * (2 ^ 62 * t)) (m * g * b) refl (omega arith) at_once in
     let second = encloses_times help g (2 ^ 62 * l * s) (m * b) (g * (2 ^ 62 * l * s)) (m * g * b) refl (omega arith) waited in
     let both = encloses_plus taken help (plus_ends taken help) refl _ _ (m * g * b) first second in

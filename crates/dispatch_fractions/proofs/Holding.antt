@@ -18,7 +18,7 @@ use Rattle.busy_words.specs.Order.{WordOrder}
 use Rattle.busy_words.specs.WeightParts.{IsOrderOf, EnclosesSolution, full_part, taken_part}
 use Rattle.busy_words.proofs.WeightParts.{full_part_encloses, taken_part_encloses}
 use Rattle.dispatch_fractions.specs.PartLists.{PartList, waiting_on, help_from, parts_from, ArePartsOf, HasParts}
-use Rattle.dispatch_fractions.proofs.Ranges.{table_read}
+use Rattle.hyper_model.proofs.Ranges.{table_read}
 
 -- one unit's service is at most all service, so that its part of a part is one
 pub service_part : (p : PlanParts) (n : ℕ) → n < units p → service_of p n ≤ all_service p

@@ -1,5 +1,4 @@
 -- lemmas, each file on one subject
-pub mod Ranges
 pub mod Holding
 pub mod FlowEnds
 pub mod Contain

@@ -1,5 +1,5 @@
 -- The ends of the measures of dispatches, made of parts. A flow is a rate of calls times a part of 2 ^ 62.
-use Rattle.std.specs.Prelude.{◌≡◌, ℕ, ◌*◌, ◌^◌, ◌==◌, Bool, true, false, not, if◌then◌else◌, List, ◌∷◌, ◌++◌, All, map}
+use Rattle.std.specs.Prelude.{◌≡◌, ℕ, ◌*◌, ◌^◌, ◌==◌, Bool, true, false, not, if◌then◌else◌, List, ◌∷◌, ◌++◌, map}
 use Rattle.std.specs.List.{flat_map, range_with_len}
 use Rattle.fixed_interval.specs.Ends.{Ends, exact_ends, plus_ends, scaled_ends, quotient_ends, share_ends}
 use Rattle.hyper_model.specs.declared.kinds.Measure.TheVariants as measure
@@ -8,18 +8,14 @@ use Rattle.hyper_model.specs.declared.kinds.Found.TheVariants as found
 use Rattle.hyper_model.specs.declared.kinds.Enclosed.{Enclosed}
 use Rattle.hyper_model.specs.declared.parts.PlanParts.{PlanParts}
 use Rattle.hyper_model.specs.Plans.{units, atoms, calls_of, all_calls, is_inside, district_calls}
-use Rattle.hyper_model.specs.Solutions.{mass_in}
-use Rattle.hyper_model.specs.Measures.{is_without, IsContained, IsInRange}
+use Rattle.hyper_model.specs.Measures.{is_without}
 use Rattle.busy_words.specs.Algebra.{total_ends, where_ends}
-use Rattle.dispatch_fractions.specs.PartLists.{PartList, taken_by, help_of, HasParts}
-
--- the two ends, as what was found of a measure
-abbrev pub ends_found : Ends → Found
-ends_found a = found.Ends a.lo a.hi
+use Rattle.busy_words.specs.MeasureEnds.{found_ends, measure_ends}
+use Rattle.dispatch_fractions.specs.PartLists.{PartList, taken_by, help_of}
 
 -- the flow of atom j's calls that unit n answers, at once or out of the queue
-abbrev pub sent_ends : PlanParts → PartList → ℕ → ℕ → Ends
-sent_ends p parts n j = scaled_ends (calls_of p j) (plus_ends (taken_by parts n j) (help_of parts n))
+abbrev pub flow_ends : PlanParts → PartList → ℕ → ℕ → Ends
+flow_ends p parts n j = scaled_ends (calls_of p j) (plus_ends (taken_by parts n j) (help_of parts n))
 
 -- inside a district, or outside of it
 abbrev pub is_on_side : PlanParts → ℕ → Bool → ℕ → Bool
@@ -28,7 +24,7 @@ is_on_side p m inside j = if inside then is_inside p m j else not (is_inside p m
 -- the flow of the calls that unit n answers inside unit m's district, or outside of it
 abbrev pub side_ends : PlanParts → PartList → Bool → ℕ → ℕ → Ends
 side_ends p parts inside n m =
-    total_ends (atoms p) (λ j. where_ends (is_on_side p m inside j) (sent_ends p parts n j))
+    total_ends (atoms p) (λ j. where_ends (is_on_side p m inside j) (flow_ends p parts n j))
 
 -- of all units, the flow of those that each answers inside its own district, or outside of it
 abbrev pub region_ends : PlanParts → PartList → Bool → Ends
@@ -40,11 +36,9 @@ others_ends p parts n = total_ends (units p) (λ m. where_ends (not (m == n)) (s
 
 -- the share of all answered calls that unit n answers at atom j, in millionths
 abbrev pub fraction_of : PlanParts → PartList → ℕ → ℕ → Enclosed
-fraction_of p parts n j = record {
-  measure = measure.Dispatch n j;
-  found = ends_found
-      (quotient_ends (scaled_ends 1000000 (sent_ends p parts n j)) (exact_ends (all_calls p * 2 ^ 62)) 1000000);
-}
+fraction_of p parts n j =
+    measure_ends (measure.Dispatch n j)
+    (quotient_ends (scaled_ends 1000000 (flow_ends p parts n j)) (exact_ends (all_calls p * 2 ^ 62)) 1000000)
 
 abbrev pub unit_fractions : PlanParts → PartList → ℕ → List Enclosed
 unit_fractions p parts n = map (fraction_of p parts n) (range_with_len 0 (atoms p))
@@ -55,7 +49,7 @@ fractions_of p parts = flat_map (unit_fractions p parts) (range_with_len 0 (unit
 
 -- the share of one flow in two, in millionths
 abbrev pub share_found : Ends → Ends → Found
-share_found a rest = ends_found (share_ends 1000000 a rest)
+share_found a rest = found_ends (share_ends 1000000 a rest)
 
 abbrev pub region_share : PlanParts → PartList → Enclosed
 region_share p parts = record {
@@ -84,20 +78,7 @@ interdistrict_of p parts =
     region_share p parts
     ∷ (map (unit_share p parts) (range_with_len 0 (units p)) ++ map (district_share p parts) (range_with_len 0 (units p)))
 
--- for every solution that has these parts, the measure lies between its ends, or has no value and no ends
-abbrev pub IsAlwaysContained : PlanParts → PartList → Enclosed → Type 0
-IsAlwaysContained p parts e = (xs : List ℕ) (z : ℕ) → HasParts p xs z parts → IsContained p (mass_in xs) z e
-
--- so do all measures of a list
-abbrev pub AreContained : PlanParts → PartList → List Enclosed → Type 0
-AreContained p parts list =
-    (xs : List ℕ) (z : ℕ) → HasParts p xs z parts → All (IsContained p (mass_in xs) z) list
-
--- the measure's unit and atom are the plan's
-abbrev pub IsOfPlan : PlanParts → Enclosed → Type 0
-IsOfPlan p e = IsInRange p e.measure
-
--- ends are told exactly where the measure has a value
+-- ends are reported exactly if the measure has a value
 abbrev pub is_absent : Found → Bool
 is_absent (found.Ends lo hi) = false
 is_absent found.Without = true

@@ -30,7 +30,7 @@ taken_by parts n j = ends_at parts.taken (n * parts.atoms + j)
 abbrev pub help_of : PartList → ℕ → Ends
 help_of parts n = ends_at parts.help n
 
--- the part of the answered calls that wait: while all units are busy, calls wait on the infinite line alone
+-- the part of the answered calls that wait: while all units are busy, calls wait on the infinite line only
 abbrev pub waiting_on : Line → Ends → Ends
 waiting_on line.Zero full = exact_ends 0
 waiting_on line.Infinite full = full

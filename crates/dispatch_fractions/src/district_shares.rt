@@ -1,13 +1,14 @@
 ghost use Rattle.std.specs.Prelude.{◌≡◌, ◌++◌, ◌*◌, ◌^◌, ◌<◌, ◌≤◌, All, IfOk, map};
 ghost use Rattle.std.specs.List.{range_with_len};
+ghost use Rattle.hyper_model.specs.declared.TheConstants.{MOST_UNITS, MOST_ATOMS, MOST_RATE};
 ghost use Rattle.hyper_model.specs.Plans.{units};
 ghost use Rattle.hyper_model.specs.Enclosures.{IsOrderedEnclosed, IsOrderedFound};
 ghost use Rattle.dispatch_fractions.specs.PartLists.{AreSizedFor};
-ghost use Rattle.dispatch_fractions.specs.Fractions.{AreContained, IsOfPlan, HasEndsOnly, district_share, interdistrict_of, region_share, share_found, unit_share};
+ghost use Rattle.dispatch_fractions.specs.Fractions.{district_share, interdistrict_of, region_share, share_found, unit_share};
 
 use crate::Parts;
 use crate::districts::calls_inside;
-use crate::flows::{found_of, sent_by_others, sent_in_region, sent_to_side};
+use crate::flows::{flow_by_others, flow_in_region, flow_to_side, found_of};
 use fixed_interval::Wide;
 use hyper_model::{Enclosed, Found, Measure, Plan};
 use std::alloc::{AllocError, Global};
@@ -19,13 +20,10 @@ use std::alloc::{AllocError, Global};
 pub fn interdistrict(alloc: Global, plan: &Plan, parts: &Parts) -> Result<Vec<Enclosed>, AllocError>
     requires { AreSizedFor plan.now parts.now }
     ensures exact { IfOk result (λ found. found.items ≡ interdistrict_of plan.now parts.now) }
-    ensures contains { IfOk result (λ found. AreContained plan.now parts.now found.items) }
-    ensures without { IfOk result (λ found. All (HasEndsOnly plan.now) found.items) }
     ensures ordered { IfOk result (λ found. All IsOrderedEnclosed found.items) }
-    ensures in_range { IfOk result (λ found. All (IsOfPlan plan.now) found.items) }
 {
     let mut found = Vec::new(alloc);
-    found.push(region(plan, parts))?;
+    found.push(region_share(plan, parts))?;
     push_units(&mut found, plan, parts)?;
     push_districts(&mut found, plan, parts)?;
     Ok(found)
@@ -39,7 +37,7 @@ fn push_units(found: &mut Vec<Enclosed>, plan: &Plan, parts: &Parts) -> Result<(
     ensures ordered { IfOk result (λ _. All IsOrderedEnclosed found.new.items) }
 {
     for unit in 0..plan.units() {
-        found.push(of_unit(plan, parts, unit as u8))?;
+        found.push(unit_share(plan, parts, unit as u8))?;
     }
     Ok(())
 }
@@ -52,12 +50,12 @@ fn push_districts(found: &mut Vec<Enclosed>, plan: &Plan, parts: &Parts) -> Resu
     ensures ordered { IfOk result (λ _. All IsOrderedEnclosed found.new.items) }
 {
     for unit in 0..plan.units() {
-        found.push(of_district(plan, parts, unit as u8))?;
+        found.push(district_share(plan, parts, unit as u8))?;
     }
     Ok(())
 }
 
-fn region(plan: &Plan, parts: &Parts) -> Enclosed
+fn region_share(plan: &Plan, parts: &Parts) -> Enclosed
     requires { AreSizedFor plan.now parts.now }
     ensures exact { result ≡ region_share plan.now parts.now }
     ensures ordered { IsOrderedEnclosed result }
@@ -65,13 +63,13 @@ fn region(plan: &Plan, parts: &Parts) -> Enclosed
     Enclosed {
         measure: Measure::Interdistrict,
         found: share(
-            sent_in_region(plan, parts, false),
-            sent_in_region(plan, parts, true),
+            flow_in_region(plan, parts, false),
+            flow_in_region(plan, parts, true),
         ),
     }
 }
 
-fn of_unit(plan: &Plan, parts: &Parts, unit: u8) -> Enclosed
+fn unit_share(plan: &Plan, parts: &Parts, unit: u8) -> Enclosed
     requires sized { AreSizedFor plan.now parts.now }
     requires unit { unit < units plan.now }
     ensures exact { result ≡ unit_share plan.now parts.now unit }
@@ -81,13 +79,13 @@ fn of_unit(plan: &Plan, parts: &Parts, unit: u8) -> Enclosed
     Enclosed {
         measure: Measure::InterdistrictUnit(unit),
         found: share(
-            sent_to_side(plan, parts, false, own, own),
-            sent_to_side(plan, parts, true, own, own),
+            flow_to_side(plan, parts, false, own, own),
+            flow_to_side(plan, parts, true, own, own),
         ),
     }
 }
 
-fn of_district(plan: &Plan, parts: &Parts, unit: u8) -> Enclosed
+fn district_share(plan: &Plan, parts: &Parts, unit: u8) -> Enclosed
     requires sized { AreSizedFor plan.now parts.now }
     requires unit { unit < units plan.now }
     ensures exact { result ≡ district_share plan.now parts.now unit }
@@ -95,11 +93,11 @@ fn of_district(plan: &Plan, parts: &Parts, unit: u8) -> Enclosed
 {
     Enclosed {
         measure: Measure::InterdistrictDistrict(unit),
-        found: found_of_district(plan, parts, usize::from(unit)),
+        found: found_of_share(plan, parts, usize::from(unit)),
     }
 }
 
-fn found_of_district(plan: &Plan, parts: &Parts, unit: usize) -> Found
+fn found_of_share(plan: &Plan, parts: &Parts, unit: usize) -> Found
     requires sized { AreSizedFor plan.now parts.now }
     requires unit { unit < units plan.now }
     ensures exact { result ≡ (district_share plan.now parts.now unit).found }
@@ -109,15 +107,15 @@ fn found_of_district(plan: &Plan, parts: &Parts, unit: usize) -> Found
         return Found::Without;
     }
     share(
-        sent_by_others(plan, parts, unit),
-        sent_to_side(plan, parts, true, unit, unit),
+        flow_by_others(plan, parts, unit),
+        flow_to_side(plan, parts, true, unit, unit),
     )
 }
 
 // The share of one flow in two, in millionths.
 fn share(flow: Wide, rest: Wide) -> Found
-    requires few { flow.hi ≤ 12 * (200 * (1000000 * 2 ^ 63)) }
-    requires rest_few { rest.hi ≤ 12 * (200 * (1000000 * 2 ^ 63)) }
+    requires few { flow.hi ≤ MOST_UNITS * (MOST_ATOMS * (MOST_RATE * 2 ^ 63)) }
+    requires rest_few { rest.hi ≤ MOST_UNITS * (MOST_ATOMS * (MOST_RATE * 2 ^ 63)) }
     ensures exact { result ≡ share_found flow rest }
     ensures ordered { IsOrderedFound result }
 {

@@ -2,10 +2,10 @@ ghost use Rattle.std.specs.Prelude.{◌≡◌, ◌++◌, ◌<◌, All, IfOk};
 ghost use Rattle.hyper_model.specs.Plans.{units, atoms};
 ghost use Rattle.hyper_model.specs.Enclosures.{IsOrderedEnclosed};
 ghost use Rattle.dispatch_fractions.specs.PartLists.{AreSizedFor};
-ghost use Rattle.dispatch_fractions.specs.Fractions.{AreContained, IsOfPlan, fraction_of, fractions_of, unit_fractions};
+ghost use Rattle.dispatch_fractions.specs.Fractions.{fraction_of, fractions_of, unit_fractions};
 
 use crate::Parts;
-use crate::flows::{found_of, sent};
+use crate::flows::{dispatch_flow, found_of};
 use fixed_interval::Wide;
 use hyper_model::{Enclosed, Measure, Plan};
 use std::alloc::{AllocError, Global};
@@ -17,9 +17,7 @@ use std::alloc::{AllocError, Global};
 pub fn fractions(alloc: Global, plan: &Plan, parts: &Parts) -> Result<Vec<Enclosed>, AllocError>
     requires { AreSizedFor plan.now parts.now }
     ensures exact { IfOk result (λ found. found.items ≡ fractions_of plan.now parts.now) }
-    ensures contains { IfOk result (λ found. AreContained plan.now parts.now found.items) }
     ensures ordered { IfOk result (λ found. All IsOrderedEnclosed found.items) }
-    ensures in_range { IfOk result (λ found. All (IsOfPlan plan.now) found.items) }
 {
     let mut found = Vec::new(alloc);
     for unit in 0..plan.units() {
@@ -28,7 +26,7 @@ pub fn fractions(alloc: Global, plan: &Plan, parts: &Parts) -> Result<Vec<Enclos
     Ok(found)
 }
 
-// Puts the fractions of one unit behind the others.
+// Puts the fractions of one unit after the others.
 fn push_unit(
     found: &mut Vec<Enclosed>,
     plan: &Plan,
@@ -55,7 +53,7 @@ fn fraction(plan: &Plan, parts: &Parts, unit: usize, atom: usize) -> Enclosed
     ensures ordered { IsOrderedEnclosed result }
 {
     let all = u128::from(plan.calls()) * (1 << 62);
-    let share = sent(plan, parts, unit, atom)
+    let share = dispatch_flow(plan, parts, unit, atom)
         .scaled(1_000_000)
         .over(Wide::new(all, all), 1_000_000);
     Enclosed {

@@ -1,4 +1,4 @@
-use crate::part_making::{all_help, all_taken, waiting_part};
+use crate::part_making::{help_parts, taken_parts, waiting_part};
 use busy_words::{Order, full_part};
 use fixed_interval::{Iv, Weights};
 use hyper_model::Plan;
@@ -7,8 +7,8 @@ use std::marker::Model;
 
 /// The parts of a plan's weights from which its dispatches and travel times are made.
 ///
-/// All are in units of `1 / 2^62`. What they are parts of are the calls that are answered: all of them where
-/// calls wait, and where calls are lost those that come while a unit is free.
+/// All are in units of `1 / 2^62`. What they are parts of are the calls that are answered: all of them if
+/// calls wait, and if calls are lost those that come while a unit is free.
 #[derive(Debug, Drop)]
 pub struct Parts {
     units: usize,
@@ -20,20 +20,21 @@ pub struct Parts {
 
 impl Model for Parts {
     ghost use Rattle.std.specs.Prelude.{◌≡◌, ◌*◌, ◌≤◌, length};
+    ghost use Rattle.hyper_model.specs.declared.TheConstants.{MOST_UNITS, MOST_ATOMS};
     ghost use Rattle.dispatch_fractions.specs.PartLists.{PartList};
 
     ghost Value = { PartList };
 
     ghost view = { λ a. record { units = a.units; atoms = a.atoms; taken = a.taken.items; full = a.full; help = a.help.items } };
 
-    ghost invariant = { λ a. (a.units ≤ 12) × (a.atoms ≤ 200) × (length a.taken.items ≡ a.units * a.atoms) × (length a.help.items ≡ a.units) };
+    ghost invariant = { λ a. (a.units ≤ MOST_UNITS) × (a.atoms ≤ MOST_ATOMS) × (length a.taken.items ≡ a.units * a.atoms) × (length a.help.items ≡ a.units) };
 }
 
 impl Parts {
-    ghost use Rattle.std.specs.Prelude.{◌≡◌, ℕ, ◌<◌, List, IfOk, length};
+    ghost use Rattle.std.specs.Prelude.{◌≡◌, ◌<◌, IfOk, length};
     ghost use Rattle.fixed_interval.specs.WeightList.{ends_at};
-    ghost use Rattle.busy_words.specs.WeightParts.{EnclosesSolution, IsOrderOf, places};
-    ghost use Rattle.dispatch_fractions.specs.PartLists.{ArePartsOf, HasParts, parts_from, taken_by, help_of, waiting_on};
+    ghost use Rattle.busy_words.specs.WeightParts.{IsOrderOf, places};
+    ghost use Rattle.dispatch_fractions.specs.PartLists.{AreSizedFor, parts_from, taken_by, help_of, waiting_on};
 
     /// The parts of these weights, one for each word in this order, and on the infinite line one more for the
     /// calls that wait.
@@ -46,13 +47,11 @@ impl Parts {
         requires order { IsOrderOf plan.now order.now }
         requires one_each { length weights.now.items ≡ places plan.now }
         ensures exact { IfOk result (λ parts. parts ≡ parts_from plan.now order.now (ends_at weights.now.items)) }
-        ensures parts { IfOk result (λ parts. ArePartsOf plan.now order.now (ends_at weights.now.items) parts) }
-        ensures encloses { IfOk result (λ parts. (xs : List ℕ) (z : ℕ)
-            → EnclosesSolution plan.now order.now weights.now.items xs z → HasParts plan.now xs z parts) }
+        ensures sized { IfOk result (AreSizedFor plan.now) }
     {
         let full = full_part(plan, weights);
-        let taken = all_taken(alloc, plan, order, weights)?;
-        let help = all_help(alloc, plan, waiting_part(plan, full))?;
+        let taken = taken_parts(alloc, plan, order, weights)?;
+        let help = help_parts(alloc, plan, waiting_part(plan, full))?;
         Ok(Parts {
             units: plan.units(),
             atoms: plan.atoms(),
@@ -78,7 +77,7 @@ impl Parts {
         self.full
     }
 
-    /// The part of the answered calls that wait and are then the unit's. It is 0 where calls are lost.
+    /// The part of the answered calls that wait and are then the unit's. It is 0 if calls are lost.
     pub fn h(&self, unit: usize) -> Iv
         requires { unit < self.now.units }
         ensures { result ≡ help_of self.now unit }
@@ -86,7 +85,7 @@ impl Parts {
         self.help[unit]
     }
 
-    /// The part of the answered calls that wait: `d` on the infinite line, and 0 where calls are lost.
+    /// The part of the answered calls that wait: `d` on the infinite line, and 0 if calls are lost.
     pub fn waiting(&self, plan: &Plan) -> Iv
         ensures { result ≡ waiting_on plan.now.line self.now.full }
     {

@@ -1,8 +1,8 @@
-ghost use Rattle.std.specs.Prelude.{◌≡◌, ◌++◌, ◌<◌, ◌≤◌, ◌^◌, IfOk, length, map};
+ghost use Rattle.std.specs.Prelude.{◌≡◌, ◌++◌, ◌<◌, ◌≤◌, IfOk, length, map};
 ghost use Rattle.std.specs.List.{flat_map, range_with_len};
 ghost use Rattle.fixed_interval.specs.Ends.{ratio_ends};
 ghost use Rattle.fixed_interval.specs.WeightList.{ends_at};
-ghost use Rattle.hyper_model.specs.Plans.{units, service_of, all_service, IsAccepted};
+ghost use Rattle.hyper_model.specs.Plans.{units, service_of, all_service};
 ghost use Rattle.busy_words.specs.WeightParts.{IsOrderOf, places};
 ghost use Rattle.dispatch_fractions.specs.PartLists.{taken_row, waiting_on};
 
@@ -12,7 +12,7 @@ use hyper_model::{Line, Plan};
 use std::alloc::{AllocError, Global};
 
 /// Unit by unit, what each takes at once of the calls of each atom.
-pub(crate) fn all_taken(
+pub(crate) fn taken_parts(
     alloc: Global,
     plan: &Plan,
     order: &Order,
@@ -50,10 +50,9 @@ fn push_taken(
 }
 
 /// Of each unit, the part that it takes of the calls that wait.
-pub(crate) fn all_help(alloc: Global, plan: &Plan, waiting: Iv) -> Result<Vec<Iv>, AllocError>
-    ensures help { IfOk result (λ help. help.items
+pub(crate) fn help_parts(alloc: Global, plan: &Plan, waiting: Iv) -> Result<Vec<Iv>, AllocError>
+    ensures { IfOk result (λ help. help.items
         ≡ map (λ n. ratio_ends waiting (service_of plan.now n) (all_service plan.now)) (range_with_len 0 (units plan.now))) }
-    ensures accepted { IsAccepted plan.now }
 {
     let service = plan.service();
     let mut help = Vec::new(alloc);
@@ -63,7 +62,7 @@ pub(crate) fn all_help(alloc: Global, plan: &Plan, waiting: Iv) -> Result<Vec<Iv
     Ok(help)
 }
 
-/// The part of the answered calls that wait, where `full` is that of the states in which all units are busy.
+/// The part of the answered calls that wait, if `full` is that of the states in which all units are busy.
 pub(crate) fn waiting_part(plan: &Plan, full: Iv) -> Iv
     ensures { result ≡ waiting_on plan.now.line full }
 {

@@ -84,7 +84,7 @@ encloses_times i k a b x d num den e =
       high = omega (arith, mul-le-mul_left k e.high);
     })
 
--- A number alone contains itself, over every denominator.
+-- A single number contains itself, over every denominator.
 pub encloses_exact : (v : ℕ) (r : Ends) → r ≡ exact_ends v → (den : ℕ) → Encloses r (v * den) den
 encloses_exact v r is den = rw is (record { low = omega arith; high = omega arith })
 
@@ -106,7 +106,7 @@ low_capped l cap d a low =
 high_capped : (h cap d a : ℕ) → a ≤ h * d → a ≤ cap * d → a ≤ min h cap * d
 high_capped h cap d a high fits = grind arith
 
--- The same sum, where it is known to be at most the cap.
+-- The same sum, if it is known to be at most the cap.
 pub encloses_plus_capped : (s t r : Ends) (cap : ℕ) → r ≡ plus_capped_ends s t cap → (a b den : ℕ)
     → Encloses s a den → Encloses t b den → a + b ≤ cap * den → Encloses r (a + b) den
 encloses_plus_capped s t r cap is a b den es et fits = rw is (record {
@@ -122,7 +122,7 @@ encloses_product s t r is a m b n es et = rw is (record {
   high = omega (arith, mul-le a b (s.hi * m) (t.hi * n) es.high et.high);
 })
 
--- The same product, where the second is a part of 2 ^ 62.
+-- The same product, if the second is a part of 2 ^ 62.
 pub encloses_times_part : (s t r : Ends) → r ≡ times_part_ends s t → (a m p n : ℕ) → Encloses s a m
     → Encloses t (2 ^ 62 * p) n → Encloses r (a * p) (m * n)
 encloses_times_part s t r is a m p n es et = rw is (record {
@@ -132,7 +132,7 @@ encloses_times_part s t r is a m p n es et = rw is (record {
       (omega (arith, mul-le a (2 ^ 62 * p) (s.hi * m) (t.hi * n) es.high et.high));
 })
 
--- A part of 2 ^ 62, told in another unit.
+-- A part of 2 ^ 62, in another unit.
 pub encloses_outward : (s r : Ends) (unit : ℕ) → r ≡ outward_ends unit s → (p den : ℕ) → Encloses s (2 ^ 62 * p) den
     → Encloses r (unit * p) den
 encloses_outward s r unit is p den e = rw is (record {
@@ -242,7 +242,7 @@ quotient_high false h l cap d x y is high low fits =
     let outer : div_ceil h l * (l * d) ≤ div_ceil h l * y = mul-le-mul_left (div_ceil h l) low in
     high_capped (div_ceil h l) cap y x (omega (arith, high, inner, outer)) fits
 
--- The quotient of two numbers over one denominator, where it is known to be at most the cap.
+-- The quotient of two numbers over one denominator, if it is known to be at most the cap.
 pub encloses_quotient : (s t r : Ends) (cap : ℕ) → r ≡ quotient_ends s t cap → (x y den : ℕ) → Encloses s x den
     → Encloses t y den → x ≤ cap * y → Encloses r x y
 encloses_quotient s t r cap is x y den es et fits = rw is (record {
@@ -250,7 +250,7 @@ encloses_quotient s t r cap is x y den es et fits = rw is (record {
   high = quotient_high _ s.hi t.lo cap den x y refl es.high et.low fits;
 })
 
--- The ends of each answer are in order where those of the arguments are.
+-- The ends of each answer are in order if those of the arguments are.
 pub plus_capped-ordered : (s t : Ends) (cap : ℕ) → s.lo ≤ s.hi → t.lo ≤ t.hi
     → (plus_capped_ends s t cap).lo ≤ (plus_capped_ends s t cap).hi
 plus_capped-ordered s t cap es et = omega arith

@@ -19,14 +19,14 @@ pub record AreScaled (n : ℕ) (w : ℕ → Ends) (y : ℕ → ℕ) : Type 0 whe
   pub below : 0 < den
   pub inside : (i : ℕ) → i < n → Encloses (w i) (factor * y i) den
 
--- A place whose number is not 0, and where the high end is least for its number.
+-- A place whose number is not 0, and at which the high end is least for its number.
 record IsTightest (n : ℕ) (high y : ℕ → ℕ) : Type 0 where
   place : ℕ
   inside : place < n
   some : 0 < y place
   least : (i : ℕ) → i < n → high place * y i ≤ high i * y place
 
--- The list of weights, told by place.
+-- The list of weights, by place.
 pub holds_of_list : (items : List Ends) (numbers : List ℕ) → EnclosesAll items numbers
     → Holds (length items) (ends_at items) (slice_index numbers)
 holds_of_list items numbers e = record { cross = e.in_ratio; live = e.positive }
@@ -42,7 +42,7 @@ tighter_than_all hn yn hp yp hi yi some least tighter =
     let whole : hn * yi * yp ≤ hi * yn * yp = omega (arith, first, second) in
     le_of_mul-le-mul_right whole some
 
--- The last of n + 1 places, where no number before it is above 0.
+-- The last of n + 1 places, if no number before it is above 0.
 first_place : (n v : ℕ) (high y : ℕ → ℕ) → y n ≡ v → ((i : ℕ) → i < n → y i ≡ 0)
     → ((i : ℕ) → i < suc n → y i ≡ 0) ⊎ IsTightest (suc n) high y
 first_place n zero high y is none = inl (λ i inside. elim (at_last n i inside) [
@@ -91,7 +91,7 @@ tightest n m high y inside some = elim (tightest_or_none n high y) [
   | inr t ↦ t
 ]
 
--- Where some number is not 0, one common factor brings all the numbers into their weights.
+-- If some number is not 0, one common factor brings all the numbers into their weights.
 pub scaled_by : (n : ℕ) (w : ℕ → Ends) (y : ℕ → ℕ) → Holds n w y → (m : ℕ) → m < n → 0 < y m → AreScaled n w y
 scaled_by n w y holds m inside some =
     let t = tightest n m (λ k. (w k).hi) y inside some in

@@ -36,7 +36,7 @@ map_shifted_none (w ∷ items) =
 pub map-shifted-zero : (power : ℕ) (items : List Ends) → power ≡ 0 → items ≡ map (shifted_ends power) items
 map-shifted-zero power items none = rw none (map_shifted_none items)
 
--- Below a power of two is told by the exponents.
+-- Of two powers of two, the exponents say which is below.
 exponent_below : (i j : ℕ) → 2 ^ i < 2 ^ j → i < j
 exponent_below i j less = elim (cases_lt i j) [
   | inl below ↦ below
@@ -46,7 +46,7 @@ exponent_below i j less = elim (cases_lt i j) [
       omega (arith, le, less)
 ]
 
--- The power that the leading zeros of a number give, where the number is past 2 ^ 52.
+-- The power that the leading zeros of a number give, if the number is past 2 ^ 52.
 pub leading_zeros-in_range : (high : ℕ) → 2 ^ 52 < high → high < 2 ^ 100
     → (52 ≤ 128 - count_leading_zeros 128 (high - 1)) × (128 - count_leading_zeros 128 (high - 1) - 52 ≤ 48)
 leading_zeros-in_range high past below =

@@ -1,5 +1,5 @@
 -- The ends that each call on an interval answers, and what it is for an interval to contain a number.
--- All numbers are unbounded. `n / 0` is 0, and so is `div_ceil n 0` where n is 0.
+-- All numbers are unbounded. `n / 0` is 0, and so is `div_ceil n 0` if n is 0.
 use Rattle.std.specs.Prelude.{ℕ, ◌+◌, ◌*◌, ◌/◌, ◌^◌, ◌≤◌, min, nat_eq, if◌then◌else◌}
 use Rattle.std.specs.Int.{div_ceil}
 
@@ -8,7 +8,7 @@ pub record Ends : Type 0 where
   pub lo : ℕ
   pub hi : ℕ
 
--- the interval contains the fraction num / den, told by cross-multiplication
+-- the interval contains the fraction num / den, by cross-multiplication
 pub record Encloses (i : Ends) (num den : ℕ) : Type 0 where
   pub low : i.lo * den ≤ num
   pub high : num ≤ i.hi * den
@@ -30,7 +30,7 @@ times_part_ends a part = between (a.lo * part.lo / 2 ^ 62) (div_ceil (a.hi * par
 abbrev pub product_ends : Ends → Ends → Ends
 product_ends a b = between (a.lo * b.lo) (a.hi * b.hi)
 
--- a part of 2 ^ 62 told in the given unit
+-- a part of 2 ^ 62 in the given unit
 abbrev pub outward_ends : ℕ → Ends → Ends
 outward_ends unit a = between (unit * a.lo / 2 ^ 62) (div_ceil (unit * a.hi) (2 ^ 62))
 
@@ -48,7 +48,7 @@ ratio_ends a num den = between (a.lo * num / den) (div_ceil (a.hi * num) den)
 abbrev pub share_ends : ℕ → Ends → Ends → Ends
 share_ends unit a rest = between (unit * a.lo / (a.lo + rest.hi)) (div_ceil (unit * a.hi) (a.hi + rest.lo))
 
--- the quotient a / d, with neither end above the cap, which is the high end where d may be 0
+-- the quotient a / d, with neither end above the cap, which is the high end if d may be 0
 abbrev pub quotient_ends : Ends → Ends → ℕ → Ends
 quotient_ends a d cap =
     between (min (a.lo / d.hi) cap) (if nat_eq d.lo 0 then cap else min (div_ceil a.hi d.lo) cap)

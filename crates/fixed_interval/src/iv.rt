@@ -25,7 +25,7 @@ impl Model for Iv {
 }
 
 impl Iv {
-    /// The interval with these ends, or `None` where they are out of order or past `2^62`.
+    /// The interval with these ends, or `None` if they are out of order or past `2^62`.
     pub fn new(lo: u64, hi: u64) -> Option<Self>
         ensures ends { SomeIff result ((lo ≤ hi) × (hi ≤ 2 ^ 62)) (between lo hi) }
         ensures encloses { IfSome result (λ i. (x den : ℕ) → Encloses (between lo hi) x den
@@ -38,7 +38,7 @@ impl Iv {
         }
     }
 
-    /// The number `v` alone.
+    /// The number `v` as both ends.
     pub fn exact(v: u64) -> Self
         requires { v ≤ 2 ^ 62 }
         ensures ends { result ≡ exact_ends v }
@@ -125,7 +125,7 @@ impl Iv {
         )
     }
 
-    /// A part in units of `1 / 2^62`, told in units of `1 / unit` and rounded outward.
+    /// A part in units of `1 / 2^62`, given in units of `1 / unit` and rounded outward.
     pub fn outward(self, unit: u32) -> (u64, u64)
         requires { unit ≤ 1000000 }
         ensures ends { between result.0 result.1 ≡ outward_ends unit self }

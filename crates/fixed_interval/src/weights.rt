@@ -1,4 +1,5 @@
 ghost use Rattle.std.specs.Prelude.{◌≡◌, ℕ, ◌+◌, ◌-◌, ◌*◌, ◌^◌, ◌<◌, ◌≤◌, All, List, [], ◌∷◌, ◌++◌, IfOk, length, map, vec_capacity, vec_len};
+ghost use Rattle.fixed_interval.specs.declared.TheConstants.{MOST_WEIGHTS};
 ghost use Rattle.fixed_interval.specs.Ends.{shifted_ends};
 ghost use Rattle.fixed_interval.specs.WeightList.{EnclosesAll, IsLeastShift, IsWeight, PushesShifted, WeightList, ends_at};
 
@@ -10,8 +11,8 @@ use std::marker::Model;
 /// A list of weights that matter only up to one common factor, each with a high end of at most
 /// `2^52`.
 ///
-/// Room for all of them is reserved at the start, and for at most 4097: one for each of `2^12`
-/// states, and one more. Contracts see the weights as `items`, and the room that is left as `spare`.
+/// Room for all of them is reserved at the start, and for at most [`MOST_WEIGHTS`](crate::MOST_WEIGHTS).
+/// Contracts see the weights as `items`, and the room that is left as `spare`.
 #[derive(Debug, Drop)]
 pub struct Weights {
     items: Vec<Iv>,
@@ -22,13 +23,13 @@ impl Model for Weights {
 
     ghost view = { λ a. record { items = a.items.items; spare = vec_capacity a.items - vec_len a.items } };
 
-    ghost invariant = { λ a. All IsWeight a.items.items × (vec_capacity a.items ≤ 4097) };
+    ghost invariant = { λ a. All IsWeight a.items.items × (vec_capacity a.items ≤ MOST_WEIGHTS) };
 }
 
 impl Weights {
     /// An empty list with room for `n` weights.
     pub fn reserved(alloc: Global, n: usize) -> Result<Self, AllocError>
-        requires { n ≤ 4097 }
+        requires { n ≤ MOST_WEIGHTS }
         ensures empty { IfOk result (λ weights. weights.items ≡ []) }
         ensures room { IfOk result (λ weights. weights.spare ≡ n) }
     {
@@ -37,7 +38,7 @@ impl Weights {
         })
     }
 
-    /// Puts `w` at the end, and shifts all weights where the high end of `w` is past `2^52`.
+    /// Puts `w` at the end, and shifts all weights if the high end of `w` is past `2^52`.
     ///
     /// The shift is by the least power of two that brings that end to at most `2^52`. It is one for
     /// all weights, so what they enclose up to a common factor they enclose after it as well.
@@ -58,7 +59,7 @@ impl Weights {
     /// How many weights there are.
     pub fn len(&self) -> usize
         ensures count { result ≡ length self.now.items }
-        ensures in_range { result ≤ 4097 }
+        ensures in_range { result ≤ MOST_WEIGHTS }
     {
         self.items.len()
     }

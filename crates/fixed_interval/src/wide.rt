@@ -138,7 +138,7 @@ impl Wide {
 
     /// The quotient of `self` by `d`, rounded outward, with neither end above `cap`.
     ///
-    /// The high end is `cap` where the low end of `d` is 0, and the low end is 0 where the high end of
+    /// The high end is `cap` if the low end of `d` is 0, and the low end is 0 if the high end of
     /// `d` is. The answer contains the quotient of two numbers
     /// wherever that quotient is known to be at most `cap`.
     pub fn over(self, d: Wide, cap: u128) -> Self
@@ -179,7 +179,7 @@ impl Wide {
     }
 }
 
-// The quotient rounded down, and 0 where there is no divisor.
+// The quotient rounded down, and 0 if there is no divisor.
 fn floor_of(x: u128, whole: u128) -> u128
     ensures { result ≡ x / whole }
 {

@@ -17,7 +17,7 @@ unit_name_at p n unit h = ap (λ (u : declared_unit.Unit). u.name) (get_or_from_
 pub atom_name_at : (p : PlanParts) (j : ℕ) (atom : Atom) → slice_get p.atoms j ≡ Some atom → atom_name p j ≡ atom.name
 atom_name_at p j atom h = ap (λ (a : Atom). a.name) (get_or_from_slice_get p.atoms j atom no_atom h)
 
--- the groups of an atom hold each unit once exactly where its list does
+-- the groups of an atom hold each unit once exactly if its list does
 pub grouped_at : (lists : GroupLists) (atom n : ℕ) (list : List ℕ) → n ≡ lists.units → list ≡ list_of lists atom
     → IsFullList n list → IsGrouped lists.units (groups_in lists atom)
 grouped_at lists atom n list e g h =

@@ -32,7 +32,7 @@ first_positive (suc (suc m)) e x d s =
     first_positive (suc m) (without_last (suc m) e) x (smaller_descends (suc m) e (omega arith) d)
     (restricted (suc m) e x (falls (suc m) e (omega arith) d) s)
 
--- where two solutions are proportional before the last state, they are so with it
+-- if two solutions are proportional before the last state, they are so with it
 with_last : (m : ℕ) (e : RateTable) (x y : ℕ → ℕ) → 0 < sum_below m (e m)
     → SolvesTable (suc m) e x → SolvesTable (suc m) e y
     → ((v w : ℕ) → v < m → w < m → x v * y w ≡ x w * y v) → (v : ℕ) → v < m → x v * y m ≡ x m * y v

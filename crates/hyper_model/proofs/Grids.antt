@@ -33,7 +33,7 @@ place_apart cols i r j c h g (inr d) e =
       ]
     ]
 
--- a cell at another place stays where one is written
+-- a cell stays as it is if another one is written
 pub other_cell : (xs : List ℕ) (v cols i r j c : ℕ) → j < cols → c < cols → (i ≢ r) ⊎ (j ≢ c)
     → get_or (set xs (r * cols + c) v) (i * cols + j) 0 ≡ get_or xs (i * cols + j) 0
 other_cell xs v cols i r j c h g d = get_or-set_other xs (r * cols + c) (i * cols + j) v 0 (place_apart cols i r j c h g d)

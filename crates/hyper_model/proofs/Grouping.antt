@@ -21,7 +21,7 @@ pub groups_head : (unit : ℕ) (units : List ℕ) (begins : List Bool)
 groups_head unit units [] = put_head unit true (groups_from units [])
 groups_head unit units (begin ∷ begins) = put_head unit begin (groups_from units begins)
 
--- a unit alone before groups of one unit
+-- a single unit before groups of one unit
 pub single_put : (unit : ℕ) (groups : List (List ℕ)) → are_single (put_before unit true groups) ≡ are_single groups
 single_put unit [] = refl
 single_put unit (group ∷ groups) = refl
@@ -31,7 +31,7 @@ pub joined_put : (unit member : ℕ) (group : List ℕ) (rest : List (List ℕ))
     → are_single (put_before unit false ((member ∷ group) ∷ rest)) ≡ false
 joined_put unit member group rest = grind (arith, nat_tests)
 
--- where no list of tests is left, each unit stands alone
+-- if no list of tests is left, each unit is a group of its own
 pub alone_single : (unit : ℕ) (units : List ℕ) → are_single (groups_from (unit ∷ units) []) ≡ true
 alone_single unit [] = refl
 alone_single unit (next ∷ units) = single_put unit (groups_from (next ∷ units) []) ∙ alone_single next units
@@ -41,7 +41,7 @@ joined_false : (unit : ℕ) (groups : List (List ℕ)) (member : ℕ)
     → are_single (put_before unit false groups) ≡ false
 joined_false unit groups member h = rw h.1.1 (joined_put unit member h.0 h.1.0)
 
--- each group has one unit exactly where a group begins at each place but the first
+-- each group has one unit exactly if a group begins at each place but the first
 pub later_single : (unit : ℕ) (units : List ℕ) (begins : List Bool)
     → list_all (λ begin. begin) (take (length units) begins) ≡ are_single (groups_from (unit ∷ units) begins)
 later_single unit [] [] = refl
@@ -130,7 +130,7 @@ count_from p (unit ∷ units) [] =
 count_from p (unit ∷ units) (begin ∷ begins) =
     omega (arith, put_count p unit begin (groups_from units begins), count_from p units begins, sum_by-cons (λ (x : ℕ). cond (p x) 1 0) unit units)
 
--- groups hold each of the first n units once exactly where their list does
+-- groups hold each of the first n units once exactly if their list does
 pub grouped_from : (n : ℕ) (units : List ℕ) (begins : List Bool) → IsFullList n units → IsGrouped n (groups_from units begins)
 grouped_from n units begins h = record {
   filled = filled_from units begins;

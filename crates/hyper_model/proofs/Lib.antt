@@ -1,7 +1,9 @@
 -- lemmas, each file on one subject
+pub mod Ranges
 pub mod Grids
 pub mod Grouping
 pub mod ListRows
+pub mod ListPlaces
 pub mod NameText
 pub mod PlanSums
 pub mod Accepting
@@ -17,7 +19,6 @@ pub mod WordRates
 pub mod PlanLaws
 pub mod Masses
 pub mod Denominators
-pub mod MeasureWords
 pub mod OneValue
 pub mod WaitingPlaces
 pub mod Levels

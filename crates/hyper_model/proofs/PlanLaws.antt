@@ -21,7 +21,7 @@ use Rattle.hyper_model.proofs.WordTables.{balance_is, words_descend, turn_rate_l
 pub words_positive : (p : PlanParts) → 0 < words p
 words_positive p = pow_pos (units p)
 
--- a list solves the balance of the words where it solves that of their table
+-- a list solves the balance of the words if it solves that of their table
 pub solves_word_table : (p : PlanParts) → IsAccepted p → (xs : List ℕ) → SolvesWords p xs
     → SolvesTable (words p) (word_table p) (mass_in xs)
 solves_word_table p a xs s = record {
@@ -59,7 +59,7 @@ scaled_solves n k e x h s = record {
 pub full_below : (p : PlanParts) → full_word p < words p
 full_below p = omega (arith, words_full (units p))
 
--- where calls are lost, a solution of the words is one; where they wait, its masses are multiplied by the
+-- if calls are lost, a solution of the words is one; if they wait, its masses are multiplied by the
 -- difference of the rates, so that the mass of the waiting calls is whole
 pub has_solution : (p : PlanParts) → IsAccepted p → HasSolution p
 has_solution p a = on_line p.line refl

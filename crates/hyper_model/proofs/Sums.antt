@@ -56,7 +56,7 @@ positive_place (suc n) f h = elim (cases_lt 0 (f n)) [
   | inr g ↦ let rest = positive_place n f (omega arith) in (rest.0, omega (arith, rest.1), rest.2)
 ]
 
--- where g is f but for one place
+-- if g is f but for one place
 pub sum_changed : (n : ℕ) (f g : ℕ → ℕ) (a : ℕ) → a < n → ((i : ℕ) → i < n → i ≢ a → f i ≡ g i)
     → sum_below n f + g a ≡ sum_below n g + f a
 sum_changed zero f g a l h = absurd (omega arith)
@@ -113,6 +113,14 @@ sum_split (suc n) b f = omega (arith, sum_split n b f, cond_split (b n) (f n))
 pub cond_scaled : (b : Bool) (k a : ℕ) → k * cond b a 0 ≡ cond b (k * a) 0
 cond_scaled true k a = refl
 cond_scaled false k a = omega arith
+
+-- a factor of the addends that pass a test is one of their sum
+pub choices_scaled : (n k : ℕ) (test : ℕ → Bool) (f : ℕ → ℕ)
+    → sum_below n (λ i. cond (test i) (k * f i) 0) ≡ k * sum_below n (λ i. cond (test i) (f i) 0)
+choices_scaled n k test f =
+    sum-same n (λ i. cond (test i) (k * f i) 0) (λ i. k * cond (test i) (f i) 0)
+    (λ i l. sym (cond_scaled (test i) k (f i)))
+    ∙ sum-scaled n k (λ i. cond (test i) (f i) 0)
 
 -- an addend taken at the places that pass a test
 pub choices_sum : (n k : ℕ) (b : ℕ → Bool)

@@ -33,7 +33,7 @@ pub last_place : (m : ℕ) (e : RateTable) (x : ℕ → ℕ) → SolvesTable (su
     → x m * sum_below m (e m) ≡ sum_below m (λ i. x i * e i m)
 last_place m e x s = omega (arith, s.balanced m (omega arith))
 
--- the last state alone cannot have all the mass
+-- the last state cannot have all the mass by itself
 pub rest_positive : (m : ℕ) (e : RateTable) (x : ℕ → ℕ) → 0 < sum_below m (e m) → SolvesTable (suc m) e x
     → 0 < sum_below m x
 rest_positive m e x f s = elim (cases_lt 0 (sum_below m x)) [

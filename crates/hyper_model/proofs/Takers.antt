@@ -71,7 +71,7 @@ not_member (m ∷ group) w n h f =
       not_member group w n both.1 f,
     )
 
--- where a unit of the groups is free, somebody takes the call
+-- if a unit of the groups is free, somebody takes the call
 pub taker_exists : (k : ℕ) (groups : List (List ℕ)) (w n : ℕ) → All (λ group. All (λ m. m < k) group) groups
     → is_busy w n ≡ false → 0 < sum_by (λ group. count_by (λ m. m == n) group) groups
     → (m : ℕ) × (m < k) × (is_taker groups w m ≡ true)
@@ -107,7 +107,7 @@ alone (m ∷ []) e = (m, λ n t. sym (eqb-true m n (first (m == n) t)))
     first false t = t
 alone (m ∷ l ∷ group) e = absurd (omega arith)
 
--- where each group has one unit, one unit at most takes a call
+-- if each group has one unit, one unit at most takes a call
 pub takers_single : (k : ℕ) (groups : List (List ℕ)) (w : ℕ) → are_single groups ≡ true
     → sum_below k (λ n. cond (is_taker groups w n) 1 0) ≤ 1
 takers_single k [] w h = omega (arith, sum_none k (λ n. 0) (λ n l. refl))
@@ -197,7 +197,7 @@ not_taken p j w n b = on_test (takes p j w n)
     (λ t. absurd (true≢false (sym b ∙ taker_free (groups_of p j) w n t)))
     (λ f. f)
 
--- where all units are busy, nobody takes a call
+-- if all units are busy, nobody takes a call
 pub takers_none : (p : PlanParts) (j w : ℕ) → ((n : ℕ) → n < units p → is_busy w n ≡ true) → taker_count p j w ≡ 0
 takers_none p j w h =
     sum_none (units p) (λ n. cond (takes p j w n) 1 0) (λ n l. ap {B = ℕ} (λ c. cond c 1 0) (not_taken p j w n (h n l)))

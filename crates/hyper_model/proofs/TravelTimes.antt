@@ -5,7 +5,7 @@ use Rattle.hyper_model.specs.declared.parts.PlanParts.{PlanParts}
 use Rattle.hyper_model.specs.Grid.{Grid, cell}
 use Rattle.hyper_model.specs.Sums.{sum_below}
 use Rattle.hyper_model.proofs.Sums.{sum-le, sum-scaled}
-use Rattle.hyper_model.specs.Plans.{located, travel, IsAccepted}
+use Rattle.hyper_model.specs.Plans.{atoms, located, travel, IsAccepted}
 use Rattle.hyper_model.specs.Measures.{mean_travel}
 use Rattle.hyper_model.specs.TravelTimes.{mean_travel_in}
 
@@ -29,7 +29,7 @@ sum_grows m (suc n) f h =
       | inr e ↦ omega (arith, ap (λ k. sum_below k f) e)
     ]
 
--- the total after the first k places: the sum itself, and how large it is where all cells are below 2 ^ 32
+-- the total after the first k places: the sum itself, and how large it is if all cells are below 2 ^ 32
 pub record IsTotal (located travel : Grid) (unit atom k total : ℕ) : Type 0 where
   pub exact : total ≡ sum_below k (λ i. cell located unit i * cell travel i atom)
   pub bound : total ≤ sum_below k (cell located unit) * 2 ^ 32
@@ -62,7 +62,7 @@ total_most located travel unit atom k total h e g whole longest each =
       weighed_le k (cell located unit) (λ i. cell travel i atom) longest (λ i l. each i (omega arith)),
     )
 
--- at a plan's tables the mean is that of the measures
+-- of a plan the mean is taken over its atoms
 pub mean_travel-of_plan : (p : PlanParts) → IsAccepted p → (n j : ℕ)
-    → mean_travel_in p.located p.travel n j ≡ mean_travel p n j
+    → mean_travel p n j ≡ sum_below (atoms p) (λ k. located p n k * travel p k j)
 mean_travel-of_plan p a n j = ap (λ k. sum_below k (λ i. located p n i * travel p i j)) a.locations.cols

@@ -1,5 +1,5 @@
 -- The fleet with waiting places: each state of the queue has its balance with the next one, so that the words
--- are balanced alone, and the waiting calls sum as on a line without end.
+-- are balanced by themselves, and the waiting calls sum as on a line without end.
 use Rattle.std.proofs.Common.{◌≡◌, ℕ, zero, suc, ◌+◌, ◌-◌, ◌*◌, ◌^◌, ◌<◌, ◌≤◌, sym, ap, subst, inl, inr, arith}
 use Rattle.std.proofs.lemmas.Bool.{cases_eq}
 use Rattle.std.proofs.Math.Nat.{pow-zero, pow-suc}

@@ -27,7 +27,7 @@ turned_apart v n i ne e =
 pub turned_moves : (v n : ℕ) → v ≢ turned_word v n
 turned_moves v n e = no_fixed_point (is_busy v n) (ap (λ w. is_busy w n) e ∙ busy_turned v n)
 
--- the rate to the word in which unit n alone has changed
+-- the rate to the word in which only unit n has changed
 pub table_at_turned : (p : PlanParts) (v n : ℕ) → n < units p → word_table p v (turned_word v n) ≡ turn_rate p v n
 table_at_turned p v n l =
     sum-same (units p) (λ i. cond (eqb (turned_word v n) (turned_word v i)) (turn_rate p v i) 0)

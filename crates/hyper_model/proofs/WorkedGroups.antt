@@ -5,7 +5,7 @@ use Rattle.hyper_model.specs.Groups.{GroupLists, groups_in, list_of}
 use Rattle.hyper_model.specs.Words.{first_free_of, is_taker}
 use Rattle.hyper_model.proofs.Worked.{row_of_units}
 
--- of five units: the third alone, the first with the fourth, and the other two
+-- of five units: the third by itself, the first with the fourth, and the other two
 abbrev three_groups : GroupLists
 three_groups = record {
   units = 5;
@@ -43,7 +43,7 @@ pub second_group_takes :
     × (is_taker (groups_in three_groups 0) 4 4 ≡ false)
 second_group_takes = (refl, refl, refl, refl, refl)
 
--- with the first busy too (word 5), the fourth is alone
+-- with the first busy too (word 5), the fourth is by itself
 pub rest_of_group_takes :
     (is_taker (groups_in three_groups 0) 5 0 ≡ false)
     × (is_taker (groups_in three_groups 0) 5 3 ≡ true)

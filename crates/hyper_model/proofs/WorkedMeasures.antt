@@ -22,9 +22,9 @@ dispatch_subject = refl
 dispatch_scale : scale_of (measure.Dispatch 0 2) ≡ 1000000
 dispatch_scale = refl
 
--- the mean number of waiting calls is no time, and the mean time that a call waits is one
-queue_scale : scale_of measure.Queue ≡ 1000000
-queue_scale = refl
+-- the share of the calls that wait is no time, and the mean time that a call waits is one
+delay_scale : scale_of measure.Delay ≡ 1000000
+delay_scale = refl
 
 wait_scale : scale_of measure.Wait ≡ 1000
 wait_scale = refl

@@ -1,5 +1,5 @@
--- Two units of equal rates, where a call that finds both busy is lost: with lists that begin with the own unit, with
--- one group, and with one atom alone. The masses stand in the order: none busy, A, B, both.
+-- Two units of equal rates, and a call that finds both busy is lost: with lists that begin with the own unit, with
+-- one group, and with only one atom. The masses stand in the order: none busy, A, B, both.
 use Rattle.std.proofs.Common.{◌≡◌, ℕ, List, [], ◌∷◌, true, false, refl, arith}
 use Rattle.hyper_model.specs.declared.kinds.Line.TheVariants as line
 use Rattle.hyper_model.specs.declared.kinds.Rule.TheVariants as rule
@@ -31,7 +31,7 @@ two_districts list_of_p list_of_q = record {
 abbrev either_unit : AtomList
 either_unit = row_of_units (0 ∷ 1 ∷ []) (true ∷ false ∷ [])
 
--- a call goes to the unit of its district where that is free, else to the other
+-- a call goes to the unit of its district if that is free, else to the other
 abbrev opposite_lists : PlanParts
 opposite_lists =
     two_districts (row_of_units (0 ∷ 1 ∷ []) (true ∷ true ∷ [])) (row_of_units (1 ∷ 0 ∷ []) (true ∷ true ∷ []))

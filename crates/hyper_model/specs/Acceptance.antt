@@ -1,10 +1,11 @@
 -- Words of the checks that accept a plan's parts.
 use Rattle.std.specs.Prelude.{◌≡◌, ◌==◌, ℕ, ◌<◌, ◌≤◌, List, length, All, count_by}
+use Rattle.hyper_model.specs.declared.TheConstants.{MOST_RATE, MOST_TRAVEL, WHOLE_TIME}
 use Rattle.hyper_model.specs.declared.parts.PlanParts.{PlanParts}
 use Rattle.hyper_model.specs.Grid.{Grid, cell}
 use Rattle.hyper_model.specs.Groups.{GroupLists, groups_in, IsGrouped}
 use Rattle.hyper_model.specs.Sums.{sum_below}
-use Rattle.hyper_model.specs.Plans.{units, atoms, unit_at, atom_at, IsBetween, IsPlaced}
+use Rattle.hyper_model.specs.Plans.{units, atoms, unit_at, atom_at, IsBetween, IsAtomWithin}
 
 -- the first n names are all different
 abbrev pub HaveOwnNames : ℕ → (ℕ → List ℕ) → Type 0
@@ -16,11 +17,11 @@ IsNamedBefore n name = (i : ℕ) × ((i < n) × (name i ≡ name n))
 
 -- each of the n units has a rate of service within its limits
 abbrev pub HaveRates : PlanParts → Type 0
-HaveRates p = (n : ℕ) → n < units p → IsBetween 1 1000000 (unit_at p n).rate
+HaveRates p = (n : ℕ) → n < units p → IsBetween 1 MOST_RATE (unit_at p n).rate
 
 -- each atom is within its limits
-abbrev pub ArePlaced : PlanParts → Type 0
-ArePlaced p = (j : ℕ) → j < atoms p → IsPlaced (units p) (atom_at p j)
+abbrev pub AreAtomsWithin : PlanParts → Type 0
+AreAtomsWithin p = (j : ℕ) → j < atoms p → IsAtomWithin (units p) (atom_at p j)
 
 -- at how many places of a list the unit stands
 abbrev pub places_in : List ℕ → ℕ → ℕ
@@ -44,10 +45,10 @@ pub record HasListSizes (p : PlanParts) : Type 0 where
 abbrev pub AreGrouped : GroupLists → ℕ → Type 0
 AreGrouped lists n = (j : ℕ) → j < n → IsGrouped lists.units (groups_in lists j)
 
--- each row of the table has the sum 1000
+-- each row of the table is a whole time
 abbrev pub AreWhole : Grid → Type 0
-AreWhole table = (r : ℕ) → r < table.rows → sum_below table.cols (cell table r) ≡ 1000
+AreWhole table = (r : ℕ) → r < table.rows → sum_below table.cols (cell table r) ≡ WHOLE_TIME
 
--- the cells of a row are at most 100,000
+-- the cells of a row are times of travel
 abbrev pub IsRowWithin : Grid → ℕ → Type 0
-IsRowWithin table r = (c : ℕ) → c < table.cols → cell table r c ≤ 100000
+IsRowWithin table r = (c : ℕ) → c < table.cols → cell table r c ≤ MOST_TRAVEL

@@ -1,15 +1,16 @@
 -- what contracts see of a table of whole numbers: its rows one after the other
 use Rattle.std.specs.Prelude.{◌≡◌, ◌≢◌, ℕ, ◌+◌, ◌*◌, ◌<◌, ◌≤◌, ◌⊎◌, List, length, replicate, slice_set, slice_index_or}
+use Rattle.hyper_model.specs.declared.TheConstants.{MOST_ATOMS}
 
 pub record Grid : Type 0 where
   pub rows : ℕ
   pub cols : ℕ
   pub cells : List ℕ
 
--- at most 200 rows and 200 columns, and a cell for each place
+-- at most a row and a column for each atom that a plan can have, and a cell for each place
 pub record IsSized (grid : Grid) : Type 0 where
-  pub few_rows : grid.rows ≤ 200
-  pub few_cols : grid.cols ≤ 200
+  pub few_rows : grid.rows ≤ MOST_ATOMS
+  pub few_cols : grid.cols ≤ MOST_ATOMS
   pub one_each : length grid.cells ≡ grid.rows * grid.cols
 
 -- the cell in row r and column c

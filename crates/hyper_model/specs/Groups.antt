@@ -1,12 +1,12 @@
 -- Preference lists of groups. A call takes one of the free units of the first group that has one.
 use Rattle.std.specs.Prelude.{◌≡◌, ℕ, ◌<◌, ◌==◌, Bool, true, false, if◌then◌else◌, List, [], ◌∷◌, length, All, sum_by, count_by, drop, replicate, slice_set, slice_index_or}
 
--- a unit put before groups: in a group of its own where it is alone, else at the head of the first
+-- a unit put before groups: in a group of its own if it is `single`, else at the head of the first
 abbrev pub put_before : ℕ → Bool → List (List ℕ) → List (List ℕ)
-put_before unit alone [] = (unit ∷ []) ∷ []
-put_before unit alone (group ∷ groups) = if alone then (unit ∷ []) ∷ group ∷ groups else (unit ∷ group) ∷ groups
+put_before unit single [] = (unit ∷ []) ∷ []
+put_before unit single (group ∷ groups) = if single then (unit ∷ []) ∷ group ∷ groups else (unit ∷ group) ∷ groups
 
--- the groups of units in order: of each unit but the first, the test tells whether a group begins with it
+-- the groups of units in order: of each unit but the first, the list says whether a group begins with it
 abbrev pub groups_from : List ℕ → List Bool → List (List ℕ)
 groups_from [] begins = []
 groups_from (unit ∷ units) [] = put_before unit true (groups_from units [])

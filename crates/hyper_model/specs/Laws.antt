@@ -15,7 +15,7 @@ abbrev pub AreWordsPositive : PlanParts → Type 0
 AreWordsPositive p =
     (xs : List ℕ) (z : ℕ) → IsSolution p xs z → (w : ℕ) → w < words p → 1 ≤ mass_in xs w
 
--- and so have the waiting calls, where calls wait
+-- and so have the waiting calls, if calls wait
 abbrev pub IsTailPositive : PlanParts → Type 0
 IsTailPositive p = (xs : List ℕ) (z : ℕ) → IsSolution p xs z → p.line ≡ line.Infinite → 1 ≤ z
 
@@ -63,7 +63,7 @@ pub record SolvesQueue (p : PlanParts) (room : ℕ) (x q : ℕ → ℕ) : Type 0
 abbrev pub waiting_in : ℕ → (ℕ → ℕ) → ℕ
 waiting_in room q = sum_below room (λ k. q (k + 1))
 
--- the words have the balance that they have where nobody can wait, and the waiting calls that of the line
+-- the words have the balance that they have if nobody can wait, and the waiting calls that of the line
 -- without end, but for the calls that find no place
 pub record HasTail (p : PlanParts) (room : ℕ) (x q : ℕ → ℕ) : Type 0 where
   pub balanced : (w : ℕ) → w < words p → IsBalancedWord p x w
@@ -83,7 +83,7 @@ level n word = sum_below n (λ k. if is_busy word k then 1 else 0)
 abbrev pub level_mass : PlanParts → (ℕ → ℕ) → ℕ → ℕ
 level_mass p x k = sum_below (words p) (λ w. if level (units p) w == k then x w else 0)
 
--- where all units serve at one rate, the numbers of busy units are those of Erlang's model
+-- if all units serve at one rate, the numbers of busy units are those of Erlang's model
 abbrev pub LevelsLaw : PlanParts → Type 0
 LevelsLaw p =
     (rate : ℕ) → ((n : ℕ) → n < units p → service_of p n ≡ rate)

@@ -1,4 +1,5 @@
 pub mod Name
+pub mod BoundedLists
 pub mod Sums
 pub mod Grid
 pub mod Groups

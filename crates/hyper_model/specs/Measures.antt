@@ -14,7 +14,8 @@ use Rattle.hyper_model.specs.declared.kinds.Found.TheVariants as found
 use Rattle.hyper_model.specs.declared.kinds.Enclosed.{Enclosed}
 use Rattle.hyper_model.specs.declared.parts.PlanParts.{PlanParts}
 use Rattle.hyper_model.specs.Sums.{sum_below}
-use Rattle.hyper_model.specs.Plans.{units, atoms, service_of, calls_of, all_calls, all_service, is_inside, district_calls, located, travel, split}
+use Rattle.hyper_model.specs.TravelTimes.{mean_travel_in}
+use Rattle.hyper_model.specs.Plans.{units, atoms, service_of, calls_of, all_calls, all_service, is_inside, district_calls, travel, split}
 use Rattle.hyper_model.specs.Words.{words, is_busy, full_word, takes, portion}
 use Rattle.hyper_model.specs.Solutions.{mass_in, IsSolution}
 
@@ -103,6 +104,10 @@ pub record Ratio : Type 0 where
 abbrev pub mass : PlanParts → (ℕ → ℕ) → ℕ → ℕ
 mass p x z = sum_below (words p) x + z
 
+-- the mass of the states in which unit n is busy
+abbrev pub busy_mass : PlanParts → (ℕ → ℕ) → ℕ → ℕ → ℕ
+busy_mass p x z n = sum_below (words p) (λ w. if is_busy w n then x w else 0) + z
+
 -- the mass of the states in which a call that comes has to wait
 abbrev pub queued_mass_on : Line → PlanParts → (ℕ → ℕ) → ℕ → ℕ
 queued_mass_on line.Zero p x z = 0
@@ -112,7 +117,7 @@ abbrev pub queued_mass : PlanParts → (ℕ → ℕ) → ℕ → ℕ
 queued_mass p x z = queued_mass_on p.line p x z
 
 -- the mass of the states in which a call that comes is answered, at once or later: the full word is the
--- last of the words, and its calls are lost where nobody can wait
+-- last of the words, and its calls are lost if nobody can wait
 abbrev pub base_on : Line → PlanParts → (ℕ → ℕ) → ℕ → ℕ
 base_on line.Zero p x z = sum_below (full_word p) x
 base_on line.Infinite p x z = mass p x z
@@ -142,7 +147,7 @@ dispatch_flow_by p x z n = sum_below (atoms p) (dispatch_flow p x z n)
 
 -- the mean travel time of unit n, free, to atom j, in thousandths of a second
 abbrev pub mean_travel : PlanParts → ℕ → ℕ → ℕ
-mean_travel p n j = sum_below (atoms p) (λ k. located p n k * travel p k j)
+mean_travel p n j = mean_travel_in p.located p.travel n j
 
 -- the seconds of travel to atom j, summed over the atoms that a call comes from, each times its rate
 abbrev pub travel_from_calls : PlanParts → ℕ → ℕ
@@ -194,7 +199,7 @@ measure_of p x z measure.Delay = delay_on p.line p x z
 measure_of p x z measure.Queue = queue_on p.line p x z
 measure_of p x z measure.Wait = wait_on p.line p x z
 measure_of p x z (measure.Workload n) =
-    record { numerator = sum_below (words p) (λ w. if is_busy w n then x w else 0) + z; denominator = mass p x z }
+    record { numerator = busy_mass p x z n; denominator = mass p x z }
 measure_of p x z (measure.Dispatch n j) = record {
   numerator = dispatch_flow p x z n j;
   denominator = all_calls p * all_service p * split p * base p x z;

@@ -1,6 +1,7 @@
 -- Words of a plan, and what it is for a plan to be accepted.
 use Rattle.std.specs.Prelude.{◌≡◌, ℕ, ◌<◌, ◌≤◌, ◌==◌, Bool, if◌then◌else◌, List, [], length, slice_index_or}
 use Rattle.std.specs.List.{list_all}
+use Rattle.hyper_model.specs.declared.TheConstants.{MOST_UNITS, MOST_ATOMS, MOST_RATE, MOST_COORDINATE, MOST_PERIOD, MOST_TRAVEL, WHOLE_TIME, SHARES}
 use Rattle.hyper_model.specs.Sums.{sum_below}
 use Rattle.hyper_model.specs.Grid.{cell}
 use Rattle.hyper_model.specs.Groups.{groups_in, IsGrouped}
@@ -90,9 +91,9 @@ abbrev pub all_below : ℕ → (ℕ → Bool) → Bool
 all_below n test = sum_below n (λ k. if test k then 0 else 1) == 0
 
 -- The number by which all rates are multiplied, so that the free units of a group share a call equally in
--- whole numbers: 1 where every group has one unit, else 27,720, which each number from 1 to 12 divides.
+-- whole numbers: 1 if every group has one unit, else 27,720, which each number from 1 to 12 divides.
 abbrev pub split : PlanParts → ℕ
-split p = if all_below (atoms p) (λ j. are_single (groups_of p j)) then 1 else 27720
+split p = if all_below (atoms p) (λ j. are_single (groups_of p j)) then 1 else SHARES
 
 -- an infinite line needs more service than calls
 abbrev pub IsStable : Line → ℕ → ℕ → Type 0
@@ -105,24 +106,24 @@ pub record IsBetween (least most value : ℕ) : Type 0 where
 
 -- 1 to 12 units with names of their own, each with a service rate, of 1,000,000 in all at most
 pub record HasUnits (p : PlanParts) : Type 0 where
-  pub number : IsBetween 1 12 (units p)
+  pub number : IsBetween 1 MOST_UNITS (units p)
   pub named : (n m : ℕ) → n < units p → m < units p → unit_name p n ≡ unit_name p m → n ≡ m
-  pub rates : (n : ℕ) → n < units p → IsBetween 1 1000000 (service_of p n)
-  pub service : all_service p ≤ 1000000
+  pub rates : (n : ℕ) → n < units p → IsBetween 1 MOST_RATE (service_of p n)
+  pub service : all_service p ≤ MOST_RATE
 
--- an atom's calls, its place on the map, and a district among n units
-pub record IsPlaced (n : ℕ) (atom : Atom) : Type 0 where
-  pub rate : atom.rate ≤ 1000000
-  pub x : atom.x ≤ 1000000
-  pub y : atom.y ≤ 1000000
+-- an atom's calls, its point, and a district among n units
+pub record IsAtomWithin (n : ℕ) (atom : Atom) : Type 0 where
+  pub rate : atom.rate ≤ MOST_RATE
+  pub x : atom.x ≤ MOST_COORDINATE
+  pub y : atom.y ≤ MOST_COORDINATE
   pub district : atom.district < n
 
 -- 1 to 200 atoms with names of their own, and 1 to 1,000,000 calls in all
 pub record HasAtoms (p : PlanParts) : Type 0 where
-  pub number : IsBetween 1 200 (atoms p)
+  pub number : IsBetween 1 MOST_ATOMS (atoms p)
   pub named : (i j : ℕ) → i < atoms p → j < atoms p → atom_name p i ≡ atom_name p j → i ≡ j
-  pub placed : (j : ℕ) → j < atoms p → IsPlaced (units p) (atom_at p j)
-  pub calls : IsBetween 1 1000000 (all_calls p)
+  pub placed : (j : ℕ) → j < atoms p → IsAtomWithin (units p) (atom_at p j)
+  pub calls : IsBetween 1 MOST_RATE (all_calls p)
 
 -- a list of groups for each atom
 pub record HasLists (p : PlanParts) : Type 0 where
@@ -134,13 +135,13 @@ pub record HasLists (p : PlanParts) : Type 0 where
 pub record HasLocations (p : PlanParts) : Type 0 where
   pub rows : p.located.rows ≡ units p
   pub cols : p.located.cols ≡ atoms p
-  pub whole : (n : ℕ) → n < units p → sum_below (atoms p) (located p n) ≡ 1000
+  pub whole : (n : ℕ) → n < units p → sum_below (atoms p) (located p n) ≡ WHOLE_TIME
 
 -- the seconds of each ordered pair of atoms
 pub record HasTravel (p : PlanParts) : Type 0 where
   pub rows : p.travel.rows ≡ atoms p
   pub cols : p.travel.cols ≡ atoms p
-  pub within : (k j : ℕ) → k < atoms p → j < atoms p → travel p k j ≤ 100000
+  pub within : (k j : ℕ) → k < atoms p → j < atoms p → travel p k j ≤ MOST_TRAVEL
 
 pub record IsAccepted (p : PlanParts) : Type 0 where
   pub units : HasUnits p
@@ -148,7 +149,7 @@ pub record IsAccepted (p : PlanParts) : Type 0 where
   pub lists : HasLists p
   pub locations : HasLocations p
   pub travel : HasTravel p
-  pub period : IsBetween 1 100000000 p.period
+  pub period : IsBetween 1 MOST_PERIOD p.period
   pub stable : IsStable p.line (all_calls p) (all_service p)
 
 -- an accepted plan with its sums of rates and its factor

@@ -1,4 +1,4 @@
--- Words: the states of the fleet. A word is a number below 2 ^ N; unit n is busy in it where bit n is set.
+-- Words: the states of the fleet. A word is a number below 2 ^ N; unit n is busy in it if bit n is set.
 use Rattle.std.specs.Prelude.{ℕ, ◌-◌, ◌/◌, ◌^◌, ◌==◌, Bool, false, not, ◌&&◌, if◌then◌else◌, List, [], ◌∷◌, Option, bit_xor}
 use Rattle.std.specs.List.{find, list_any}
 use Rattle.std.specs.Int.{bit_at}
@@ -20,7 +20,7 @@ is_free word n = not (is_busy word n)
 abbrev pub full_word : PlanParts → ℕ
 full_word p = 2 ^ units p - 1
 
--- the word in which unit n alone has changed, from free to busy or from busy to free
+-- the word in which only unit n has changed, from free to busy or from busy to free
 abbrev pub turned_word : ℕ → ℕ → ℕ
 turned_word word n = bit_xor word (2 ^ n)
 
@@ -28,7 +28,7 @@ turned_word word n = bit_xor word (2 ^ n)
 abbrev pub first_free_of : List ℕ → ℕ → Option ℕ
 first_free_of list word = find (is_free word) list
 
--- the unit at the least place of an atom's list that is free, or none where all are busy
+-- the unit at the least place of an atom's list that is free, or none if all are busy
 abbrev pub first_free : GroupLists → ℕ → ℕ → Option ℕ
 first_free lists atom word = first_free_of (list_of lists atom) word
 

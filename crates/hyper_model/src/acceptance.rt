@@ -1,15 +1,12 @@
 ghost use Rattle.std.specs.Prelude.{◌≡◌, ◌<◌, ◌≤◌, ◌↔◌, ℕ, IsTrue, length};
-ghost use Rattle.hyper_model.specs.Plans.{units, atoms, all_calls, all_service, unit_name, atom_name, IsBetween, IsPlaced, HasUnits, HasAtoms, HasLists, HasLocations, HasTravel, IsStable, IsAccepted};
-ghost use Rattle.hyper_model.specs.Acceptance.{HaveOwnNames, IsNamedBefore, HaveRates, ArePlaced};
+ghost use Rattle.hyper_model.specs.declared.TheConstants.{MOST_RATE, MOST_PERIOD};
+ghost use Rattle.hyper_model.specs.Plans.{units, atoms, all_calls, all_service, unit_name, atom_name, IsBetween, IsAtomWithin, HasUnits, HasAtoms, HasLists, HasLocations, HasTravel, IsStable, IsAccepted};
+ghost use Rattle.hyper_model.specs.Acceptance.{HaveOwnNames, IsNamedBefore, HaveRates, AreAtomsWithin};
 
 use crate::acceptance_tables::{has_lists, has_locations, has_travel};
-use crate::{Atom, Line, MOST_ATOMS, MOST_UNITS, PlanParts};
-
-/// The highest rate of a unit, of an atom, of all units or of all atoms, and the highest coordinate.
-const MOST_RATE: u32 = 1_000_000;
-
-/// The longest period, in seconds.
-const MOST_PERIOD: u32 = 100_000_000;
+use crate::{
+    Atom, Line, MOST_ATOMS, MOST_COORDINATE, MOST_PERIOD, MOST_RATE, MOST_UNITS, PlanParts,
+};
 
 /// Whether a fleet can have these parts.
 pub(crate) fn is_accepted(parts: &PlanParts) -> bool
@@ -25,7 +22,7 @@ pub(crate) fn is_accepted(parts: &PlanParts) -> bool
 }
 
 fn is_period(period: u32) -> bool
-    ensures { IsTrue result ↔ IsBetween 1 100000000 period }
+    ensures { IsTrue result ↔ IsBetween 1 MOST_PERIOD period }
 {
     1 <= period && period <= MOST_PERIOD
 }
@@ -85,7 +82,7 @@ fn has_unit_rates(parts: &PlanParts) -> bool
 }
 
 fn is_rate(rate: u32) -> bool
-    ensures { IsTrue result ↔ IsBetween 1 1000000 rate }
+    ensures { IsTrue result ↔ IsBetween 1 MOST_RATE rate }
 {
     1 <= rate && rate <= MOST_RATE
 }
@@ -96,7 +93,7 @@ fn has_atoms(parts: &PlanParts) -> bool
     1 <= parts.atoms.len()
         && parts.atoms.len() <= MOST_ATOMS
         && has_atom_names(parts)
-        && has_atom_places(parts)
+        && are_atoms_within(parts)
         && 1 <= parts.atoms.calls()
         && parts.atoms.calls() <= u64::from(MOST_RATE)
 }
@@ -125,22 +122,22 @@ fn is_atom_named_before(parts: &PlanParts, j: usize) -> bool
     false
 }
 
-fn has_atom_places(parts: &PlanParts) -> bool
-    ensures { IsTrue result ↔ ArePlaced parts.now }
+fn are_atoms_within(parts: &PlanParts) -> bool
+    ensures { IsTrue result ↔ AreAtomsWithin parts.now }
 {
     for j in 0..parts.atoms.len() {
-        if !is_placed(parts.atoms.get(j), parts.units.len()) {
+        if !is_atom_within(parts.atoms.get(j), parts.units.len()) {
             return false;
         }
     }
     true
 }
 
-fn is_placed(atom: &Atom, units: usize) -> bool
-    ensures { IsTrue result ↔ IsPlaced units atom.now }
+fn is_atom_within(atom: &Atom, units: usize) -> bool
+    ensures { IsTrue result ↔ IsAtomWithin units atom.now }
 {
     atom.rate <= MOST_RATE
-        && atom.x <= MOST_RATE
-        && atom.y <= MOST_RATE
+        && atom.x <= MOST_COORDINATE
+        && atom.y <= MOST_COORDINATE
         && usize::from(atom.district) < units
 }

@@ -4,13 +4,7 @@ ghost use Rattle.hyper_model.specs.Sums.{sum_below};
 ghost use Rattle.hyper_model.specs.Plans.{HasLists, HasLocations, HasTravel};
 ghost use Rattle.hyper_model.specs.Acceptance.{places_in, EachStandsOnce, IsFullList, HasListSizes, AreGrouped, AreWhole, IsRowWithin};
 
-use crate::{Lists, PlanParts, Table};
-
-/// The thousandths of all a unit's free time.
-const WHOLE: u64 = 1000;
-
-/// The longest travel, in seconds.
-const MOST_TRAVEL: u32 = 100_000;
+use crate::{Lists, MOST_TRAVEL, PlanParts, Table, WHOLE_TIME};
 
 pub(crate) fn has_lists(parts: &PlanParts) -> bool
     ensures { IsTrue result ↔ HasLists parts.now }
@@ -81,7 +75,7 @@ fn are_whole(table: &Table) -> bool
     ensures { IsTrue result ↔ AreWhole table.now }
 {
     for r in 0..table.rows() {
-        if row_sum(table, r) != WHOLE {
+        if row_sum(table, r) != u64::from(WHOLE_TIME) {
             return false;
         }
     }

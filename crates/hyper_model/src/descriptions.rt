@@ -93,7 +93,7 @@ fn time(word: &'static str, subject: Subject) -> Description
     }
 }
 
-/// How many units of a measure's last printed digit make one: 1000 for times, else 1,000,000.
+/// How many units of a measure's last printed digit are one: 1000 for times, else 1,000,000.
 pub fn scale(measure: Measure) -> u32
     ensures { result ≡ spec.scale_of measure }
 {

@@ -24,11 +24,12 @@ impl Model for Enclosures {
 
 impl Enclosures {
     ghost use Rattle.std.specs.Prelude.{◌≡◌, ◌+◌, ◌<◌, ◌≤◌, [], ◌∷◌, ◌++◌, length, IfOk, slice_get, IsTrue, ◌↔◌};
+    ghost use Rattle.hyper_model.specs.declared.TheConstants.{MOST_ENCLOSURES};
     ghost use Rattle.hyper_model.specs.Enclosures.{IsOrderedEnclosed};
 
     /// An empty list with room for `n` measures.
     pub fn reserved(alloc: Global, n: usize) -> Result<Enclosures, AllocError>
-        requires { n ≤ 4000 }
+        requires { n ≤ MOST_ENCLOSURES }
         ensures items { IfOk result (λ list. list.items ≡ []) }
         ensures spare { IfOk result (λ list. list.spare ≡ n) }
     {
@@ -38,7 +39,7 @@ impl Enclosures {
         })
     }
 
-    /// Puts a measure behind the others, into the room that was set aside.
+    /// Puts a measure after the others, into the room that was set aside.
     pub fn push(&mut self, item: Enclosed)
         requires room { 1 ≤ self.old.spare }
         requires ordered { IsOrderedEnclosed item }

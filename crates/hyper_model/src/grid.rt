@@ -1,4 +1,5 @@
 ghost use Rattle.std.specs.Prelude.{◌≡◌, ◌≢◌, ◌+◌, ◌*◌, ◌<◌, ◌≤◌, ◌⊎◌, ℕ, length, vec_len, IfOk};
+ghost use Rattle.hyper_model.specs.declared.TheConstants.{MOST_ATOMS};
 ghost use Rattle.hyper_model.specs.Grid.{Grid, cell, zero_grid, with_cell, IsSized, SetsCell};
 
 use std::alloc::{AllocError, Global};
@@ -23,8 +24,8 @@ impl Model for Table {
 impl Table {
     /// A table of zeros.
     pub fn of(alloc: Global, rows: usize, cols: usize) -> Result<Table, AllocError>
-        requires rows { rows ≤ 200 }
-        requires cols { cols ≤ 200 }
+        requires rows { rows ≤ MOST_ATOMS }
+        requires cols { cols ≤ MOST_ATOMS }
         ensures { IfOk result (λ table. table ≡ zero_grid rows cols) }
     {
         let cells = vec![in alloc; 0; rows * cols]?;
@@ -34,7 +35,7 @@ impl Table {
     /// How many rows there are.
     pub fn rows(&self) -> usize
         ensures rows { result ≡ self.now.rows }
-        ensures most { result ≤ 200 }
+        ensures most { result ≤ MOST_ATOMS }
     {
         self.rows
     }
@@ -42,7 +43,7 @@ impl Table {
     /// How many columns there are.
     pub fn cols(&self) -> usize
         ensures cols { result ≡ self.now.cols }
-        ensures most { result ≤ 200 }
+        ensures most { result ≤ MOST_ATOMS }
     {
         self.cols
     }

@@ -12,7 +12,7 @@ pub enum Line {
 pub enum Rule {
     /// The plan's text gives them.
     Given,
-    /// The nearest unit first, to the mean place of the calls of the atom's district.
+    /// The nearest unit first, to the mean point of the calls of the atom's district.
     Strict,
     /// The nearest unit first, to the atom itself.
     Modified,
@@ -24,7 +24,7 @@ pub enum Rule {
 /// `Travel`, which are mean times in seconds.
 #[derive(Clone, Copy, Debug, PartialEq, Eq)]
 pub enum Measure {
-    /// The share of calls that are lost, where calls do not wait.
+    /// The share of calls that are lost, if calls do not wait.
     Loss,
     /// The share of calls that wait.
     Delay,
@@ -40,7 +40,7 @@ pub enum Measure {
     Interdistrict,
     /// The share of a unit's dispatches that lead out of its district.
     InterdistrictUnit(u8),
-    /// The share of the dispatches to a unit's district that other units make.
+    /// The share of the dispatches to a unit's district that are of other units.
     InterdistrictDistrict(u8),
     /// The mean travel time to a call.
     Travel,

@@ -1,4 +1,4 @@
-//! The laws of the model, over its definitions alone (Larson 1974; Larson and Odoni, Urban Operations
+//! The laws of the model, over its definitions only (Larson 1974; Larson and Odoni, Urban Operations
 //! Research, chapter 5). Their calls answer nothing: each one's contract is a theorem on the plan.
 ghost use Rattle.hyper_model.specs.Plans.{IsAccepted};
 ghost use Rattle.hyper_model.specs.Solutions.{HasSolution};
@@ -10,7 +10,7 @@ use crate::Plan;
 pub fn law_accepted(plan: &Plan)
     ensures { IsAccepted plan.now }
 {
-    let _calls = plan.calls();
+    let _parts = plan.parts();
 }
 
 /// The balance equations have a solution in whole numbers, not all 0.
@@ -49,7 +49,7 @@ pub fn law_tail(plan: &Plan)
     law_accepted(plan);
 }
 
-/// Where all units serve at one rate, the number of busy units is distributed as in Erlang's loss model:
+/// If all units serve at one rate, the number of busy units is distributed as in Erlang's loss model:
 /// `k + 1` times this rate times the mass of the words with `k + 1` busy units is the rate of all calls
 /// times the mass of those with `k`.
 pub fn law_levels(plan: &Plan)

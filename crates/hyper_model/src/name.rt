@@ -12,7 +12,7 @@ use std::marker::Model;
 /// The most bytes that a name has.
 pub const MOST_NAME_BYTES: usize = 32;
 
-/// ASCII's control code behind the printed characters.
+/// ASCII's control code after the printed characters.
 const DELETE: u8 = 127;
 
 /// Why bytes gave no [`Name`].

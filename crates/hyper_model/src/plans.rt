@@ -1,4 +1,5 @@
 ghost use Rattle.std.specs.Prelude.{◌≡◌, ◌<◌, ◌≤◌, ℕ, MatchResult};
+ghost use Rattle.hyper_model.specs.declared.TheConstants.{MOST_UNITS, MOST_ATOMS, MOST_RATE, MOST_PERIOD, MOST_TRAVEL, WHOLE_TIME, SHARES};
 ghost use Rattle.hyper_model.specs.Plans.{units, atoms, unit_at, atom_at, all_calls, all_service, located, travel, split, IsAccepted};
 
 use crate::acceptance::is_accepted;
@@ -27,8 +28,8 @@ impl Model for Plan {
 }
 
 impl Plan {
-    /// The plan of these parts. They are handed back where a unit, an atom, a list, a table or a rate is out
-    /// of its limits, or where calls would queue without end.
+    /// The plan of these parts. They are handed back if a unit, an atom, a list, a table or a rate is out
+    /// of its limits, or if calls would queue without end.
     pub fn of(parts: PlanParts) -> Result<Plan, PlanParts>
         ensures { MatchResult result (λ plan. (plan ≡ parts) × IsAccepted parts)
             (λ back. (back ≡ parts) × (IsAccepted parts → ⊥)) }
@@ -55,6 +56,14 @@ impl Plan {
         }
     }
 
+    /// The parts that were accepted.
+    pub(crate) fn parts(&self) -> &PlanParts
+        ensures parts { result.now ≡ self.now }
+        ensures accepted { IsAccepted self.now }
+    {
+        &self.parts
+    }
+
     /// What becomes of a call while all units are busy.
     pub fn line(&self) -> Line
         ensures { result ≡ self.now.line }
@@ -73,7 +82,7 @@ impl Plan {
     pub fn period(&self) -> u32
         ensures period { result ≡ self.now.period }
         ensures least { 1 ≤ result }
-        ensures most { result ≤ 100000000 }
+        ensures most { result ≤ MOST_PERIOD }
     {
         self.parts.period
     }
@@ -82,7 +91,7 @@ impl Plan {
     pub fn units(&self) -> usize
         ensures units { result ≡ units self.now }
         ensures least { 1 ≤ result }
-        ensures most { result ≤ 12 }
+        ensures most { result ≤ MOST_UNITS }
     {
         self.parts.units.len()
     }
@@ -91,7 +100,7 @@ impl Plan {
     pub fn atoms(&self) -> usize
         ensures atoms { result ≡ atoms self.now }
         ensures least { 1 ≤ result }
-        ensures most { result ≤ 200 }
+        ensures most { result ≤ MOST_ATOMS }
     {
         self.parts.atoms.len()
     }
@@ -100,7 +109,7 @@ impl Plan {
     pub fn unit(&self, n: usize) -> &Unit
         requires { n < units self.now }
         ensures unit { result.now ≡ unit_at self.now n }
-        ensures rate { (1 ≤ result.now.rate) × (result.now.rate ≤ 1000000) }
+        ensures rate { (1 ≤ result.now.rate) × (result.now.rate ≤ MOST_RATE) }
     {
         self.parts.units.get(n)
     }
@@ -109,7 +118,7 @@ impl Plan {
     pub fn atom(&self, j: usize) -> &Atom
         requires { j < atoms self.now }
         ensures atom { result.now ≡ atom_at self.now j }
-        ensures rate { result.now.rate ≤ 1000000 }
+        ensures rate { result.now.rate ≤ MOST_RATE }
         ensures district { result.now.district < units self.now }
     {
         self.parts.atoms.get(j)
@@ -127,7 +136,7 @@ impl Plan {
         requires unit { n < units self.now }
         requires atom { k < atoms self.now }
         ensures located { result ≡ located self.now n k }
-        ensures most { result ≤ 1000 }
+        ensures most { result ≤ WHOLE_TIME }
     {
         self.parts.located.get(n, k)
     }
@@ -137,7 +146,7 @@ impl Plan {
         requires from { k < atoms self.now }
         requires to { j < atoms self.now }
         ensures travel { result ≡ travel self.now k j }
-        ensures most { result ≤ 100000 }
+        ensures most { result ≤ MOST_TRAVEL }
     {
         self.parts.travel.get(k, j)
     }
@@ -160,7 +169,7 @@ impl Plan {
     pub fn calls(&self) -> u32
         ensures calls { result ≡ all_calls self.now }
         ensures least { 1 ≤ result }
-        ensures most { result ≤ 1000000 }
+        ensures most { result ≤ MOST_RATE }
         ensures accepted { IsAccepted self.now }
     {
         self.calls
@@ -170,18 +179,18 @@ impl Plan {
     pub fn service(&self) -> u32
         ensures service { result ≡ all_service self.now }
         ensures least { 1 ≤ result }
-        ensures most { result ≤ 1000000 }
+        ensures most { result ≤ MOST_RATE }
         ensures accepted { IsAccepted self.now }
     {
         self.service
     }
 
-    /// The factor of all rates in the balance equations: 1 where no group has two units, else 27,720, which
+    /// The factor of all rates in the balance equations: 1 if no group has two units, else 27,720, which
     /// each number of units divides.
     pub fn split(&self) -> u32
         ensures split { result ≡ split self.now }
         ensures least { 1 ≤ result }
-        ensures most { result ≤ 27720 }
+        ensures most { result ≤ SHARES }
     {
         self.split
     }

@@ -1,11 +1,15 @@
+ghost use Rattle.std.specs.Prelude.{◌≡◌};
+ghost use Rattle.std.specs.List.{list_all};
+
+use crate::MOST_UNITS;
 use std::alloc::{AllocError, Global};
 use std::marker::Model;
 
 /// The list of one atom: a unit at each place, and whether a group begins there.
 #[derive(Clone, Copy, Debug)]
 pub(crate) struct ListRow {
-    pub(crate) members: [u8; 12],
-    pub(crate) begins: [bool; 12],
+    pub(crate) members: [u8; MOST_UNITS],
+    pub(crate) begins: [bool; MOST_UNITS],
 }
 
 /// A preference list of units for each atom, cut into groups.
@@ -32,17 +36,19 @@ impl Model for Lists {
 
 impl Lists {
     ghost use Rattle.std.specs.Prelude.{◌≡◌, ◌<◌, ◌≤◌, ℕ, IfOk, length, drop};
-    ghost use Rattle.hyper_model.specs.Groups.{row_of, list_of, member_at, begins_at, first_lists, with_member, with_joined, IsRegular};
+    ghost use Rattle.hyper_model.specs.declared.TheConstants.{MOST_UNITS, MOST_ATOMS};
+    ghost use Rattle.hyper_model.specs.Plans.{are_single};
+    ghost use Rattle.hyper_model.specs.Groups.{row_of, list_of, groups_in, member_at, begins_at, first_lists, with_member, with_joined, IsRegular};
 
     /// Lists with the unit 0 at every place, each in a group of its own.
     pub fn of(alloc: Global, atoms: usize, units: usize) -> Result<Lists, AllocError>
-        requires atoms { atoms ≤ 200 }
-        requires units { units ≤ 12 }
+        requires atoms { atoms ≤ MOST_ATOMS }
+        requires units { units ≤ MOST_UNITS }
         ensures { IfOk result (λ lists. lists ≡ first_lists atoms units) }
     {
         let row = ListRow {
-            members: [0; 12],
-            begins: [true; 12],
+            members: [0; MOST_UNITS],
+            begins: [true; MOST_UNITS],
         };
         let rows = vec![in alloc; row; atoms]?;
         Ok(Lists { units, rows })
@@ -51,7 +57,7 @@ impl Lists {
     /// How many atoms have a list.
     pub fn atoms(&self) -> usize
         ensures atoms { result ≡ length self.now.rows }
-        ensures most { result ≤ 200 }
+        ensures most { result ≤ MOST_ATOMS }
     {
         self.rows.len()
     }
@@ -59,7 +65,7 @@ impl Lists {
     /// How many units each list has.
     pub fn units(&self) -> usize
         ensures units { result ≡ self.now.units }
-        ensures most { result ≤ 12 }
+        ensures most { result ≤ MOST_UNITS }
         ensures regular { IsRegular self.now }
     {
         self.units
@@ -103,6 +109,15 @@ impl Lists {
         &row.begins[self.units.min(1)..self.units]
     }
 
+    /// Whether each group of an atom's list has one unit.
+    pub fn is_single(&self, atom: usize) -> bool
+        requires { atom < length self.now.rows }
+        ensures { result ≡ are_single (groups_in self.now atom) }
+    {
+        let _list = self.list(atom);
+        all_begin(self.later_begins(atom))
+    }
+
     /// Puts a unit at this place, and leaves all else.
     pub fn set(&mut self, atom: usize, place: usize, unit: u8)
         requires atom { atom < length self.old.rows }
@@ -124,4 +139,10 @@ impl Lists {
         let row = &mut self.rows[atom];
         row.begins[place] = false;
     }
+}
+
+fn all_begin(begins: &[bool]) -> bool
+    ensures { result ≡ list_all (λ begin. begin) begins.now }
+{
+    begins.iter().all(|begin| *begin)
 }

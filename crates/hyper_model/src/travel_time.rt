@@ -1,4 +1,5 @@
 ghost use Rattle.std.specs.Prelude.{◌≡◌, ◌*◌, ◌<◌, ◌≤◌, ℕ};
+ghost use Rattle.hyper_model.specs.declared.TheConstants.{WHOLE_TIME};
 ghost use Rattle.hyper_model.specs.Grid.{cell};
 ghost use Rattle.hyper_model.specs.Sums.{sum_below};
 ghost use Rattle.hyper_model.specs.TravelTimes.{mean_travel_in};
@@ -11,7 +12,7 @@ pub fn mean_thousandths(located: &Table, travel: &Table, unit: usize, atom: usiz
     requires unit { unit < located.now.rows }
     requires atom { atom < travel.now.cols }
     requires places { located.now.cols ≡ travel.now.rows }
-    requires whole { sum_below located.now.cols (cell located.now unit) ≡ 1000 }
+    requires whole { sum_below located.now.cols (cell located.now unit) ≡ WHOLE_TIME }
     ensures mean { result ≡ mean_travel_in located.now travel.now unit atom }
     ensures most { (longest : ℕ) → ((k : ℕ) → k < travel.now.rows → cell travel.now k atom ≤ longest)
         → result ≤ 1000 * longest }

@@ -7,6 +7,6 @@ Rose None before now = before < now
 Rose (Some last) before now = min (before + 1) last ≤ now
 
 -- the call after so many calls is one of those that are to fail: calls are numbered from 1, and
--- none behind number 2^64 - 1 fails
+-- none after number 2^64 - 1 fails
 abbrev pub is_planned : List ℕ → ℕ → Bool
 is_planned fails calls = nat_lt calls (2 ^ 64 - 1) && list_any (λ x. nat_eq x (calls + 1)) fails

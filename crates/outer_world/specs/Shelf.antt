@@ -13,12 +13,12 @@ text_named [] name = None
 text_named (text ∷ texts) name =
     if bytes_eq text.name name then Some text.bytes else text_named texts name
 
--- where the texts are told, one has this name, and the first of them is what is left to read
+-- if the texts are known, one has this name, and the first of them is what is left to read
 abbrev pub HoldsText : Option (List NamedText) → List ℕ → Option (List ℕ) → Type 0
 HoldsText None name left = Unit {0}
 HoldsText (Some texts) name left = IsSome left × (left ≡ text_named texts name)
 
--- where the texts are told, none has this name
+-- if the texts are known, none has this name
 abbrev pub LacksText : Option (List NamedText) → List ℕ → Type 0
 LacksText None name = Unit {0}
 LacksText (Some texts) name = text_named texts name ≡ None

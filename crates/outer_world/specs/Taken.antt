@@ -8,7 +8,7 @@ use Rattle.outer_world.specs.declared.read.TheConstants.{MOST_BYTES}
 abbrev pub taken : List ℕ → List ℕ
 taken text = take MOST_BYTES text
 
--- where the texts are told, one has this name, and this is what is read of the first of them
+-- if the texts are known, one has this name, and this is what is read of the first of them
 abbrev pub IsTaken : Option (List NamedText) → List ℕ → List ℕ → Type 0
 IsTaken None name read = Unit {0}
 IsTaken (Some texts) name read = option_map taken (text_named texts name) ≡ Some read

@@ -18,7 +18,7 @@ struct OpenFile<T> {
 /// The files of the system, under their paths.
 ///
 /// It tells no texts: what a file holds is not known before it is read. Each error of the system is
-/// a fault, but for a file that is not there and for want of memory at an `open`. The count of
+/// a fault, but for a file that is not there and for lack of memory at an `open`. The count of
 /// faults stops at `u64::MAX`.
 #[derive(Drop)]
 pub struct FileShelf<'a, F: Files> {

@@ -25,7 +25,7 @@ pub enum ReadEnd {
     NoMemory,
 }
 
-/// Reads the text of this name to its end, or its first 4,194,305 bytes where it has more.
+/// Reads the text of this name to its end, or its first 4,194,305 bytes if it has more.
 pub fn read_text<S: Shelf>(alloc: Global, shelf: &mut S, name: &str) -> Result<Vec<u8>, ReadEnd>
     requires { length name.now ≤ MOST_SHELF_NAME_BYTES }
     ensures told { S.told shelf.new ≡ S.told shelf.old }

@@ -34,13 +34,13 @@ pub enum Reading {
 
 /// Named texts, of which one at a time is open and is read piece by piece.
 ///
-/// A shelf counts its faults and keeps the name of the last, so that whoever is told of a failure
+/// A shelf counts its faults and keeps the name of the last, so that whoever hears of a failure
 /// can see that it happened and where. No order of calls raises the count without a fault.
 pub trait Shelf {
-    // The named texts, where the shelf tells them.
+    // The named texts, if the shelf tells them.
     ghost told: { Self → Option (List NamedText) };
 
-    // The bytes left of the text that is open, where the shelf tells its texts.
+    // The bytes left of the text that is open, if the shelf tells its texts.
     ghost left: { Self → Option (List ℕ) };
 
     // The name of the text that is open.

@@ -15,9 +15,9 @@ pub enum Writing {
     NoMemory,
 }
 
-/// Takes bytes, one behind the other, and counts its faults.
+/// Takes bytes, one after the other, and counts its faults.
 pub trait Sink {
-    // The bytes that were taken, where the sink tells them.
+    // The bytes that were taken, if the sink tells them.
     ghost taken: { Self → Option (List ℕ) };
 
     ghost faults: { Self → ℕ };

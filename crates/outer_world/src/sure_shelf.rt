@@ -7,7 +7,7 @@ use crate::shelf::{Opening, Reading, Shelf};
 use crate::short_name::ShortName;
 use std::alloc::Global;
 
-/// Texts in memory, where no call fails.
+/// Texts in memory, of which no call fails.
 #[derive(Drop)]
 pub struct SureShelf<'a> {
     texts: &'a [NamedText],

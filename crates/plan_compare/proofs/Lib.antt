@@ -5,9 +5,9 @@ pub mod StudyForms
 pub mod StudySteps
 pub mod Pieces
 pub mod Pairs
-pub mod MeasureLines
+pub mod MeasureRows
 pub mod ValueSteps
-pub mod VerdictLines
+pub mod VerdictRows
 pub mod WideValues
 pub mod RegionValues
 pub mod TrueVerdicts

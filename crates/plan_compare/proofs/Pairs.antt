@@ -8,10 +8,10 @@ use Rattle.std.proofs.lemmas.List.Sums.{sum_by-cons}
 use Rattle.std.proofs.lemmas.List.FromFn.{length-map-range_with_len, map-range_with_len_more}
 use Rattle.hyper_model.specs.declared.kinds.Measure.{Measure}
 use Rattle.plan_compare.specs.Studies.{StudyParts}
-use Rattle.plan_compare.specs.Verdicts.{Compared, pairs_from, pairs_of, all_pairs}
-use Rattle.plan_compare.proofs.Pieces.{gained, numbers_next, range_first}
+use Rattle.plan_compare.specs.Verdicts.{PlanPair, pairs_from, pairs_of, all_pairs}
+use Rattle.text_lines.proofs.Pieces.{one_gained, numbers_next, range_first}
 
-abbrev pub pair : Measure → ℕ → ℕ → Compared
+abbrev pub pair : Measure → ℕ → ℕ → PlanPair
 pair m a b = record { measure = m; first = a; second = b }
 
 pub pairs_from-length : (n : ℕ) (m : Measure) (a : ℕ) → length (pairs_from n m a) ≡ n - (a + 1)
@@ -86,11 +86,11 @@ pairs_left-length n m a h =
     ∙ length-append (pairs_from n m a) (flat_map (pairs_from n m) (range_with_len (a + 1) (n - (a + 1))))
     ∙ ap (λ k. k + length (flat_map (pairs_from n m) (range_with_len (a + 1) (n - (a + 1))))) (pairs_from-length n m a)
 
--- what is told of one pair more
-pub told_next : {A : Type 0} (tell : Compared → A) (m : Measure) (a b : ℕ) (old list new : List A) (x : A) → a < b
+-- what is said of one pair more
+pub pairs_next : {A : Type 0} (tell : PlanPair → A) (m : Measure) (a b : ℕ) (old list new : List A) (x : A) → a < b
     → list ≡ old ++ map tell (pairs_from b m a) → new ≡ list ++ x ∷ [] → x ≡ tell (pair m a b)
     → new ≡ old ++ map tell (pairs_from (b + 1) m a)
-told_next tell m a b old list new x h e f g =
-    gained old list (map tell (pairs_from b m a)) (x ∷ []) (map tell (pairs_from (b + 1) m a)) new e f
+pairs_next tell m a b old list new x h e f g =
+    one_gained old list (map tell (pairs_from b m a)) (x ∷ []) (map tell (pairs_from (b + 1) m a)) new e f
     (ap (map tell) (pairs_from-next m a b h) ∙ map-append tell (pairs_from b m a) (pair m a b ∷ [])
     ∙ ap (λ y. map tell (pairs_from b m a) ++ y ∷ []) (sym g))

@@ -1,16 +1,16 @@
 -- The value that a list of enclosures has for a measure of the region contains the measure.
-use Rattle.std.proofs.Common.{◌≡◌, ℕ, ◌*◌, ◌≤◌, ◌<◌, ◌∙◌, sym, ap, refl, subst, arith, Bool, true, false, List, [], ◌∷◌, ◌++◌, Option, Some, None}
-use Rattle.std.specs.Prelude.{All, ◌||◌, if◌then◌else◌, is_some, unwrap_or}
-use Rattle.std.specs.List.{list_any}
+use Rattle.std.proofs.Common.{◌≡◌, ℕ, ◌∙◌, sym, ap, refl, subst, arith, rules, Bool, true, false, List, [], ◌∷◌, ◌++◌, Option, Some, None}
+use Rattle.std.specs.Prelude.{All, ◌||◌, find, if◌then◌else◌, is_some, unwrap_or}
+use Rattle.std.specs.List.{list_all, list_any}
 use Rattle.std.specs.Str.{bytes_eq}
 use Rattle.std.proofs.lemmas.List.Elements.{All-head, All-tail}
 use Rattle.std.proofs.lemmas.List.Folds.{list_any-append}
-use Rattle.std.proofs.lemmas.Option.{none-some, same_Some}
-use Rattle.std.proofs.lemmas.Slice.Eq.{bytes_eq-Decides}
+use Rattle.std.proofs.lemmas.Bool.{and_parts}
+use Rattle.std.proofs.lemmas.Option.{same_Some}
 use Rattle.std.proofs.Math.Bool.{or-true}
 use Rattle.fixed_interval.specs.Ends.{Ends}
 use Rattle.fixed_interval.specs.WeightList.{ends_at}
-use Rattle.hyper_model.specs.Measures.{ContainsRatio, IsContained, IsFoundOf, IsInRange, is_without, measure_of, scale_of, zero_ratio}
+use Rattle.hyper_model.specs.Measures.{ContainsRatio, IsContained, IsFoundOf, IsInRange, IsSubjectOf, is_of_region, is_region, is_silent, is_without, measure_named, measure_of, region_measures, scale_of, subject_of, word_of, zero_ratio}
 use Rattle.hyper_model.specs.declared.kinds.Enclosed.{Enclosed}
 use Rattle.hyper_model.specs.declared.kinds.Found.{Found}
 use Rattle.hyper_model.specs.declared.kinds.Found.TheVariants as found
@@ -19,73 +19,47 @@ use Rattle.hyper_model.specs.declared.kinds.Line.TheVariants as line
 use Rattle.hyper_model.specs.declared.kinds.Measure.{Measure}
 use Rattle.hyper_model.specs.declared.kinds.Measure.TheVariants as measure
 use Rattle.hyper_model.specs.declared.parts.PlanParts.{PlanParts}
-use Rattle.report_text.specs.Reports.{is_of_region}
+use Rattle.hyper_model.specs.declared.kinds.Subject.{Subject}
+use Rattle.hyper_model.specs.declared.kinds.Subject.TheVariants as subject
 use Rattle.busy_words.specs.Order.{WordOrder}
-use Rattle.workload_measures.specs.LoadEnds.{workloads_of}
-use Rattle.dispatch_fractions.specs.PartLists.{PartList, parts_from}
+use Rattle.workload_measures.specs.LoadEnds.{line_measures, workloads_of}
+use Rattle.dispatch_fractions.specs.PartLists.{parts_from}
 use Rattle.dispatch_fractions.specs.Fractions.{fractions_of, interdistrict_of}
-use Rattle.plan_solver.specs.Enclosures.{line_measures, travel_times_of, dispatches_of, measures_of}
-use Rattle.plan_compare.specs.Asked.{measure_named, word_of}
-use Rattle.plan_compare.specs.Values.{ends_of, value_in, value_of, zero_value}
+use Rattle.travel_measures.specs.TravelEnds.{travel_times_of}
+use Rattle.plan_solver.specs.Enclosures.{dispatches_of, measures_of}
+use Rattle.plan_compare.specs.Values.{ends_of, is_same, value_in, value_of, zero_value}
 use Rattle.plan_compare.specs.declared.values.Value.{Value}
 
--- a measure of the region has its word, and others have none
-named : (m : Measure) → is_of_region m ≡ true → measure_named (word_of m) ≡ Some m
-unfolding measure_named
-named measure.Loss h = refl
-named measure.Delay h = refl
-named measure.Queue h = refl
-named measure.Wait h = refl
-named (measure.Workload n) h = absurd (cc)
-named (measure.Dispatch n j) h = absurd (cc)
-named measure.Interdistrict h = refl
-named (measure.InterdistrictUnit n) h = absurd (cc)
-named (measure.InterdistrictDistrict n) h = absurd (cc)
-named measure.Travel h = refl
-named (measure.TravelAtom j) h = absurd (cc)
-named (measure.TravelUnit n) h = absurd (cc)
-named (measure.TravelDistrict n) h = absurd (cc)
-
-unnamed : (m : Measure) → is_of_region m ≡ false → measure_named (word_of m) ≡ None
-unfolding measure_named
-unnamed measure.Loss h = absurd (cc)
-unnamed measure.Delay h = absurd (cc)
-unnamed measure.Queue h = absurd (cc)
-unnamed measure.Wait h = absurd (cc)
-unnamed (measure.Workload n) h = refl
-unnamed (measure.Dispatch n j) h = refl
-unnamed measure.Interdistrict h = absurd (cc)
-unnamed (measure.InterdistrictUnit n) h = refl
-unnamed (measure.InterdistrictDistrict n) h = refl
-unnamed measure.Travel h = absurd (cc)
-unnamed (measure.TravelAtom j) h = refl
-unnamed (measure.TravelUnit n) h = refl
-unnamed (measure.TravelDistrict n) h = refl
-
-same_measure : (m e : Measure) → is_of_region m ≡ true → word_of e ≡ word_of m → e ≡ m
-same_measure m e h w = by (is_of_region e) refl
+-- what is found in a list passes each test that all its items pass
+found_passes : {A : Type 0} (p q : A → Bool) (xs : List A) (x : A) → list_all q xs ≡ true → find p xs ≡ Some x → q x ≡ true
+found_passes p q [] x h e = absurd (cc)
+found_passes p q (y ∷ ys) x h e = by (p y) refl (found_passes p q ys x (and_parts (q y) (list_all q ys) h).1)
   where
-    looked : measure_named (word_of e) ≡ Some m
-    looked = ap measure_named w ∙ named m h
+    by : (b : Bool) → p y ≡ b → (find p ys ≡ Some x → q x ≡ true) → q x ≡ true
+    by true t later = ap q (sym (same_Some y x (rw t at e))) ∙ (and_parts (q y) (list_all q ys) h).0
+    by false t later = later (rw t at e)
 
-    by : (b : Bool) → is_of_region e ≡ b → e ≡ m
-    by true t = same_Some e m (sym (named e t) ∙ looked)
-    by false t = absurd (none-some m (sym (unnamed e t) ∙ looked))
+-- a measure that has its word in a study is of the region
+pub of_region_measure : (word : List ℕ) (m : Measure) → measure_named word ≡ Some m → is_of_region m ≡ true
+unfolding measure_named
+of_region_measure word m e = found_passes (λ k. bytes_eq word (word_of k)) is_of_region region_measures m refl e
 
--- what an item tells
-ends_told : (f : Found) (v : Value) → ends_of f ≡ Some v → f ≡ found.Ends v.lo v.hi
-ends_told (found.Ends lo hi) v s =
+-- what an item says
+ends_found : (f : Found) (v : Value) → ends_of f ≡ Some v → f ≡ found.Ends v.lo v.hi
+ends_found (found.Ends lo hi) v s =
     ap (λ (x : Value). found.Ends x.lo x.hi) (same_Some (record { lo = lo; hi = hi }) v s)
-ends_told found.Without v s = absurd (cc)
+ends_found found.Without v s = absurd (cc)
 
-tells : (m : Measure) (e : Enclosed) (v : Value) → is_of_region m ≡ true → value_of m e ≡ Some v
+same_is : (a b : Measure) → is_same a b ≡ true → a ≡ b
+same_is a b h = search (rules, h)
+
+says : (m : Measure) (e : Enclosed) (v : Value) → value_of m e ≡ Some v
     → (e.measure ≡ m) × (e.found ≡ found.Ends v.lo v.hi)
-tells m e v h t = by (bytes_eq (word_of e.measure) (word_of m)) refl t
+says m e v t = by (is_same e.measure m) refl t
   where
-    by : (b : Bool) → bytes_eq (word_of e.measure) (word_of m) ≡ b → (if b then ends_of e.found else None) ≡ Some v
+    by : (b : Bool) → is_same e.measure m ≡ b → (if b then ends_of e.found else None) ≡ Some v
         → (e.measure ≡ m) × (e.found ≡ found.Ends v.lo v.hi)
-    by true b s =
-        (same_measure m e.measure h ((bytes_eq-Decides (word_of e.measure) (word_of m)).0 b), ends_told e.found v s)
+    by true b s = (same_is e.measure m b, ends_found e.found v s)
     by false b s = absurd (cc)
 
 -- the list has ends for the measure
@@ -110,14 +84,14 @@ value_none m (e ∷ items) h = by (value_of m e) refl (value_none m items)
     by None t later = value_later m e items t ∙ later (rw t at h)
     by (Some v) t later = absurd (let some = rw t at h in cc)
 
-module _ (p : PlanParts) (x : ℕ → ℕ) (z : ℕ) (m : Measure) (region : is_of_region m ≡ true) where
+module _ (p : PlanParts) (x : ℕ → ℕ) (z : ℕ) (m : Measure) where
   abbrev ContainsMeasure : Value → Type 0
   ContainsMeasure v = ContainsRatio v.lo v.hi (scale_of m) (measure_of p x z m)
 
   item_contains : (e : Enclosed) (v : Value) → value_of m e ≡ Some v → IsContained p x z e → ContainsMeasure v
   item_contains e v t c =
-      let told = tells m e v region t in
-      (subst (λ f. IsFoundOf p x z m f) told.1 (subst (λ k. IsFoundOf p x z k e.found) told.0 c)).1
+      let said = says m e v t in
+      (subst (λ f. IsFoundOf p x z m f) said.1 (subst (λ k. IsFoundOf p x z k e.found) said.0 c)).1
 
   value_contains : (items : List Enclosed) → All (IsContained p x z) items → has_value m items ≡ true
       → ContainsMeasure (value_in m items)
@@ -144,8 +118,8 @@ is_on l m = false
 any_before : (m : Measure) (xs ys : List Enclosed) → has_value m xs ≡ true → has_value m (xs ++ ys) ≡ true
 any_before m xs ys h = list_any-append (λ e. is_some (value_of m e)) xs ys ∙ ap (λ b. b || has_value m ys) h
 
-any_behind : (m : Measure) (xs ys : List Enclosed) → has_value m ys ≡ true → has_value m (xs ++ ys) ≡ true
-any_behind m xs ys h =
+any_after : (m : Measure) (xs ys : List Enclosed) → has_value m ys ≡ true → has_value m (xs ++ ys) ≡ true
+any_after m xs ys h =
     list_any-append (λ e. is_some (value_of m e)) xs ys ∙ ap (λ b. has_value m xs || b) h ∙ or-true (has_value m xs)
 
 -- and so has the list of the plan's measures
@@ -157,7 +131,7 @@ module _ (p : PlanParts) (order : WordOrder) (items : List Ends) where
 
   of_dispatches : (m : Measure) → has_value m (dispatches_of p (parts_from p order (ends_at items))) ≡ true
       → has_value m (measures_of p order items) ≡ true
-  of_dispatches m h = any_behind m (line_measures p.line p items ++ workloads_of p order items) (dispatches_of p (parts_from p order (ends_at items))) h
+  of_dispatches m h = any_after m (line_measures p.line p items ++ workloads_of p order items) (dispatches_of p (parts_from p order (ends_at items))) h
 
   listed : (l : Line) → p.line ≡ l → (m : Measure) → is_on l m ≡ true → has_value m (measures_of p order items) ≡ true
   listed line.Zero e measure.Loss h = of_line measure.Loss (rw e refl)
@@ -168,10 +142,10 @@ module _ (p : PlanParts) (order : WordOrder) (items : List Ends) where
       let parts = parts_from p order (ends_at items) in
       of_dispatches measure.Interdistrict
       (any_before measure.Interdistrict (fractions_of p parts ++ interdistrict_of p parts) (travel_times_of p parts)
-      (any_behind measure.Interdistrict (fractions_of p parts) (interdistrict_of p parts) refl))
+      (any_after measure.Interdistrict (fractions_of p parts) (interdistrict_of p parts) refl))
   listed l e measure.Travel h =
       let parts = parts_from p order (ends_at items) in
-      of_dispatches measure.Travel (any_behind measure.Travel (fractions_of p parts ++ interdistrict_of p parts) (travel_times_of p parts) refl)
+      of_dispatches measure.Travel (any_after measure.Travel (fractions_of p parts ++ interdistrict_of p parts) (travel_times_of p parts) refl)
   listed l e m h = absurd (cc)
 
 -- a measure that the line does not have is 0
@@ -197,16 +171,17 @@ region_contained p order items x z m region each = by (has_value m (measures_of 
     nothing false o h = rw (lacking p x z p.line refl m region o) (record { least = omega arith; most = omega arith })
 
     by : (b : Bool) → has_value m list ≡ b → ContainsRatio (value_in m list).lo (value_in m list).hi (scale_of m) (measure_of p x z m)
-    by true h = value_contains p x z m region list each h
+    by true h = value_contains p x z m list each h
     by false h =
         subst (λ (v : Value). ContainsRatio v.lo v.hi (scale_of m) (measure_of p x z m)) (sym (value_none m list h))
         (nothing (is_on p.line m) refl h)
 
+-- what is said of the region can be said of any plan
+only_region : (about : Subject) → is_region about ≡ true → about ≡ subject.Region
+only_region subject.Region h = refl
+only_region about h = absurd (cc)
+
 pub region_in_range : (p : PlanParts) (m : Measure) → is_of_region m ≡ true → IsInRange p m × (is_without p m ≡ false)
-region_in_range p measure.Loss h = (tt, refl)
-region_in_range p measure.Delay h = (tt, refl)
-region_in_range p measure.Queue h = (tt, refl)
-region_in_range p measure.Wait h = (tt, refl)
-region_in_range p measure.Interdistrict h = (tt, refl)
-region_in_range p measure.Travel h = (tt, refl)
-region_in_range p m h = absurd (cc)
+region_in_range p m h =
+    let region = only_region (subject_of m) h in
+    (subst (IsSubjectOf p) (sym region) tt, ap (is_silent p) region)

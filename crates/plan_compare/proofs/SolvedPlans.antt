@@ -7,7 +7,7 @@ use Rattle.hyper_model.specs.declared.parts.PlanParts.{PlanParts}
 use Rattle.plan_solver.specs.Enclosures.{IsEnclosureOf}
 use Rattle.plan_compare.specs.Enclosing.{AreEnclosuresOf}
 
--- lists that belong together, behind others that do
+-- lists that belong together, after others that do
 pub AllZip-append : {A B : Type 0} (R : A → B → Type 0) (xs ys : List A) (us vs : List B) → AllZip R xs us → AllZip R ys vs
     → AllZip R (xs ++ ys) (us ++ vs)
 AllZip-append R [] ys [] vs h g = g
@@ -16,15 +16,15 @@ AllZip-append R (x ∷ xs) ys [] vs h g = absurd h
 AllZip-append R (x ∷ xs) ys (u ∷ us) vs h g = (h.0, AllZip-append R xs ys us vs h.1 g)
 
 -- the lists of the first plans, and those of the others
-pub put_together : (plans left right : List PlanParts) (half : ℕ) (before behind all : List EnclosureList) → left ≡ take half plans
-    → right ≡ drop half plans → AreEnclosuresOf left before → AreEnclosuresOf right behind → all ≡ before ++ behind
+pub put_together : (plans left right : List PlanParts) (half : ℕ) (before after all : List EnclosureList) → left ≡ take half plans
+    → right ≡ drop half plans → AreEnclosuresOf left before → AreEnclosuresOf right after → all ≡ before ++ after
     → AreEnclosuresOf plans all
-put_together plans left right half before behind all e f b h g =
+put_together plans left right half before after all e f b h g =
     let is = λ (p : PlanParts) (list : EnclosureList). IsEnclosureOf p list.items in
     let both : left ++ right ≡ plans =
     ap (λ ps. ps ++ right) e ∙ ap (λ ps. take half plans ++ ps) f ∙ take-append-drop half plans in
     subst (λ ps. AllZip is ps all) both
-    (subst (λ lists. AllZip is (left ++ right) lists) (sym g) (AllZip-append is left right before behind b h))
+    (subst (λ lists. AllZip is (left ++ right) lists) (sym g) (AllZip-append is left right before after b h))
 
 -- the list of one plan more
 pub one_more : (plans : List PlanParts) (k : ℕ) (plan : PlanParts) (found : List EnclosureList) (list : EnclosureList)

@@ -1,5 +1,5 @@
--- Where the ends of two plans are apart, so are the measures of all their solutions.
-use Rattle.std.proofs.Common.{◌≡◌, ℕ, ◌+◌, ◌*◌, ◌≤◌, ◌<◌, ◌∙◌, sym, ap, refl, subst, arith, Bool, true, false, List, [], ◌∷◌, ◌++◌, length, get_or, map, Option, Some}
+-- If the ends of two plans are apart, so are the measures of all their solutions.
+use Rattle.std.proofs.Common.{◌≡◌, ℕ, ◌+◌, ◌*◌, ◌≤◌, ◌<◌, ◌∙◌, sym, ap, refl, subst, arith, Bool, true, false, List, [], ◌∷◌, length, get_or}
 use Rattle.std.specs.Prelude.{All, if◌then◌else◌, nat_lt, option_map, slice_get}
 use Rattle.std.specs.List.{flat_map, range_with_len}
 use Rattle.std.proofs.Math.Nat.{lt_of_mul-lt-mul_left, mul-le-mul_right, mul-pos}
@@ -7,20 +7,19 @@ use Rattle.std.proofs.lemmas.Bool.Decides.{nat_tests}
 use Rattle.std.proofs.lemmas.List.Elements.{All-append, All-head, All-map, All-nil, All-tail}
 use Rattle.std.proofs.lemmas.Option.{get_or_from_slice_get, same_Some, slice_get-map, slice_get_within}
 use Rattle.hyper_model.specs.Enclosures.{EnclosureList}
-use Rattle.hyper_model.specs.Measures.{ContainsRatio, IsContained, Ratio, measure_of, scale_of}
+use Rattle.hyper_model.specs.Measures.{ContainsRatio, IsContained, Ratio, is_of_region, measure_of, scale_of}
 use Rattle.hyper_model.specs.Plans.{IsAccepted}
 use Rattle.hyper_model.specs.Solutions.{IsSolution, mass_in}
 use Rattle.hyper_model.specs.declared.kinds.Enclosed.{Enclosed}
 use Rattle.hyper_model.specs.declared.kinds.Measure.{Measure}
 use Rattle.hyper_model.specs.declared.parts.PlanParts.{PlanParts}
 use Rattle.hyper_model.proofs.Denominators.{denominator_positive}
-use Rattle.report_text.specs.Reports.{is_of_region}
 use Rattle.plan_solver.specs.Enclosures.{IsEnclosureOf}
 use Rattle.plan_solver.proofs.AllMeasures.{enclosure_contains}
 use Rattle.plan_compare.specs.Studies.{StudyParts}
-use Rattle.plan_compare.specs.Truth.{AreContained, AreTrue, IsBelow, IsLess, IsTrueOf}
+use Rattle.plan_compare.specs.Truth.{AreTrue, ContainsPlans, IsBelow, IsLess, IsTrueOf, item_at}
 use Rattle.plan_compare.specs.Values.{list_at, value_at, value_in}
-use Rattle.plan_compare.specs.Verdicts.{Compared, all_pairs, pairs_from, pairs_of, verdict_of, verdict_on, verdicts_of}
+use Rattle.plan_compare.specs.Verdicts.{all_pairs, pairs_from, pairs_of, verdict_of, verdict_on, verdicts_of}
 use Rattle.plan_compare.specs.declared.values.Value.{Value}
 use Rattle.plan_compare.specs.declared.verdict_list.Verdict.{Verdict}
 use Rattle.plan_compare.specs.declared.verdict_list.Verdict.TheVariants as verdict
@@ -51,9 +50,13 @@ contained p m found region a e xs z s =
     (region_contained p e.order e.items (mass_in xs) z m region (subst (λ list. All (IsContained p (mass_in xs) z) list) e.exact each))
 
 pub all_contained : (study : StudyParts) (found : List EnclosureList) → All (λ m. is_of_region m ≡ true) study.measures
-    → AreContained study found
-all_contained study found region place p a e xs z s k d h =
-    contained p (get_or study.measures k d) (list_at found place) (region k d h) a e xs z s
+    → ContainsPlans study found
+all_contained study found region place p a e xs z s =
+    All-map (IsContained p (mass_in xs) z) (item_at found place) study.measures
+    (λ k d h. (
+      (region_in_range p (get_or study.measures k d) (region k d h)).1,
+      contained p (get_or study.measures k d) (list_at found place) (region k d h) a e xs z s,
+    ))
 
 below : (p q : PlanParts) (m : Measure) (found others : List Enclosed) → is_of_region m ≡ true → IsAccepted p → IsAccepted q
     → IsEnclosureOf p found → IsEnclosureOf q others → (value_in m found).hi < (value_in m others).lo → IsBelow m p q
@@ -64,7 +67,7 @@ below p q m found others region a b e f apart xs ys z t s u =
     (contained q m others region b f ys t u) apart (denominator_positive p a xs z s m of_p.0 of_p.1)
     (denominator_positive q b ys t u m of_q.0 of_q.1)
 
--- what a verdict of ends tells
+-- what a verdict of ends says
 verdict_true : (m : Measure) (p q : PlanParts) (a b : Value) → (a.hi < b.lo → IsBelow m p q) → (b.hi < a.lo → IsBelow m q p)
     → IsTrueOf m p q (verdict_on a b)
 verdict_true m p q a b first second = by (nat_lt a.hi b.lo) refl (nat_lt b.hi a.lo) refl

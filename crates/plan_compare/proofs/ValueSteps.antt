@@ -1,11 +1,11 @@
 -- The value that a list has for a measure, item by item.
-use Rattle.std.proofs.Common.{◌≡◌, ℕ, ◌+◌, ◌∙◌, ap, List, drop, Option, Some, None}
+use Rattle.std.proofs.Common.{◌≡◌, ℕ, ◌+◌, ◌∙◌, ap, List, drop, Some, None}
 use Rattle.std.specs.Prelude.{slice_get, unwrap_or}
 use Rattle.hyper_model.specs.declared.kinds.Enclosed.{Enclosed}
 use Rattle.hyper_model.specs.declared.kinds.Measure.{Measure}
 use Rattle.plan_compare.specs.Values.{value_in, value_of}
 use Rattle.plan_compare.specs.declared.values.Value.{Value}
-use Rattle.plan_compare.proofs.Pieces.{drop_at}
+use Rattle.text_lines.proofs.Pieces.{drop_at}
 
 -- this item tells it
 pub value_here : (m : Measure) (items : List Enclosed) (i : ℕ) (e : Enclosed) (v : Value) → slice_get items i ≡ Some e

@@ -1,5 +1,4 @@
 pub mod Refusals
-pub mod Asked
 pub mod Documents
 pub mod Studies
 pub mod Values

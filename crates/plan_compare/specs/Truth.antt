@@ -1,28 +1,33 @@
 -- What values and verdicts say of the plans of a study.
-use Rattle.std.specs.Prelude.{◌≡◌, ℕ, ◌*◌, ◌<◌, List, All, Some, slice_get}
+use Rattle.std.specs.Prelude.{◌≡◌, ℕ, ◌*◌, ◌<◌, List, Some, map, slice_get}
 use Rattle.hyper_model.specs.Enclosures.{EnclosureList}
-use Rattle.hyper_model.specs.Measures.{ContainsRatio, Ratio, measure_of, scale_of}
+use Rattle.hyper_model.specs.Measures.{ContainsSolutions, Ratio, measure_of}
 use Rattle.hyper_model.specs.Plans.{IsAccepted}
 use Rattle.hyper_model.specs.Solutions.{IsSolution, mass_in}
+use Rattle.hyper_model.specs.declared.kinds.Enclosed.{Enclosed}
+use Rattle.hyper_model.specs.declared.kinds.Found.TheVariants as found
 use Rattle.hyper_model.specs.declared.kinds.Measure.{Measure}
 use Rattle.hyper_model.specs.declared.parts.PlanParts.{PlanParts}
 use Rattle.plan_solver.specs.Enclosures.{IsEnclosureOf}
 use Rattle.plan_compare.specs.Studies.{StudyParts}
 use Rattle.plan_compare.specs.Values.{list_at, value_at}
-use Rattle.plan_compare.specs.Verdicts.{Compared, all_pairs}
+use Rattle.plan_compare.specs.Verdicts.{PlanPair, all_pairs}
 use Rattle.plan_compare.specs.declared.verdict_list.Verdict.{Verdict}
 use Rattle.plan_compare.specs.declared.verdict_list.Verdict.TheVariants as verdict
 
+-- the values of the measures in the plan at a place
+abbrev pub item_at : List EnclosureList → ℕ → Measure → Enclosed
+item_at lists place m =
+    record { measure = m; found = found.Ends (value_at lists m place).lo (value_at lists m place).hi }
+
+abbrev pub items_at : StudyParts → List EnclosureList → ℕ → List Enclosed
+items_at study lists place = map (item_at lists place) study.measures
+
 -- of each accepted plan that the list at a place encloses, the values there contain the measures of all solutions
-abbrev pub AreContained : StudyParts → List EnclosureList → Type 0
-AreContained study found =
-    (place : ℕ) (p : PlanParts) → IsAccepted p → IsEnclosureOf p (list_at found place)
-    → (xs : List ℕ) (z : ℕ) → IsSolution p xs z
-    → All
-    (λ m.
-    ContainsRatio (value_at found m place).lo (value_at found m place).hi (scale_of m)
-    (measure_of p (mass_in xs) z m))
-    study.measures
+abbrev pub ContainsPlans : StudyParts → List EnclosureList → Type 0
+ContainsPlans study lists =
+    (place : ℕ) (p : PlanParts) → IsAccepted p → IsEnclosureOf p (list_at lists place)
+    → ContainsSolutions p (items_at study lists place)
 
 -- by cross-multiplication
 abbrev pub IsLess : Ratio → Ratio → Type 0
@@ -41,8 +46,8 @@ IsTrueOf m p q verdict.NotSeparated = Prim.Unit {0}
 
 -- each verdict is true of any two accepted plans that the lists at its places enclose
 abbrev pub AreTrue : StudyParts → List EnclosureList → List Verdict → Type 0
-AreTrue study found verdicts =
-    (k : ℕ) (c : Compared) (v : Verdict) → slice_get (all_pairs study) k ≡ Some c → slice_get verdicts k ≡ Some v
+AreTrue study lists verdicts =
+    (k : ℕ) (c : PlanPair) (v : Verdict) → slice_get (all_pairs study) k ≡ Some c → slice_get verdicts k ≡ Some v
     → (p q : PlanParts) → IsAccepted p → IsAccepted q
-    → IsEnclosureOf p (list_at found c.first) → IsEnclosureOf q (list_at found c.second)
+    → IsEnclosureOf p (list_at lists c.first) → IsEnclosureOf q (list_at lists c.second)
     → IsTrueOf c.measure p q v

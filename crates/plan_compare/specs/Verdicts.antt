@@ -15,22 +15,22 @@ pub record VerdictItems : Type 0 where
   pub spare : ℕ
 
 -- two plans that are compared, by their places, and the measure
-pub record Compared : Type 0 where
+pub record PlanPair : Type 0 where
   pub measure : Measure
   pub first : ℕ
   pub second : ℕ
 
--- a plan with each of the n plans behind it
-abbrev pub pairs_from : ℕ → Measure → ℕ → List Compared
+-- a plan with each of the n plans after it
+abbrev pub pairs_from : ℕ → Measure → ℕ → List PlanPair
 pairs_from n m a =
     map (λ b. record { measure = m; first = a; second = b }) (range_with_len (a + 1) (n - (a + 1)))
 
 -- each two of n plans
-abbrev pub pairs_of : ℕ → Measure → List Compared
+abbrev pub pairs_of : ℕ → Measure → List PlanPair
 pairs_of n m = flat_map (pairs_from n m) (range_with_len 0 n)
 
 -- all that a study compares
-abbrev pub all_pairs : StudyParts → List Compared
+abbrev pub all_pairs : StudyParts → List PlanPair
 all_pairs study = flat_map (pairs_of (length study.plans)) study.measures
 
 -- ends that touch are not separated
@@ -40,7 +40,7 @@ verdict_on a b =
     else if nat_lt b.hi a.lo then verdict.Above
     else verdict.NotSeparated
 
-abbrev pub verdict_of : List EnclosureList → Compared → Verdict
+abbrev pub verdict_of : List EnclosureList → PlanPair → Verdict
 verdict_of found c = verdict_on (value_at found c.measure c.first) (value_at found c.measure c.second)
 
 abbrev pub verdicts_of : StudyParts → List EnclosureList → List Verdict

@@ -2,17 +2,19 @@ ghost use Rattle.std.specs.Prelude.{◌≡◌, [], ◌∷◌, ◌++◌, map, opt
 ghost use Rattle.std.specs.List.{list_all};
 ghost use Rattle.toml.specs.Data.{as_array};
 ghost use Rattle.toml.specs.View.{array_view, table_view, view};
+ghost use Rattle.plan_text.specs.Fields as fields;
 ghost use Rattle.plan_compare.specs.Documents as spec;
 ghost use Rattle.plan_compare.specs.Documents.{has_name_length, texts_in, texts_of};
 ghost use Rattle.plan_compare.specs.Refusals.{IsRefused};
 
-use crate::StudyRefusal;
+use crate::{MOST_COMPARED_MEASURES, StudyRefusal};
+use outer_world::MOST_SHELF_NAME_BYTES;
 use std::alloc::{AllocError, Global};
 use std::marker::Model;
 use toml::value::Array;
 use toml::{Table, Value};
 
-/// The texts that a study's document has: the names of 1 to 255 bytes of its plans, and the words of 1 to 16 measures.
+/// The texts that a study's document has: the names of its plans, of 1 to 255 bytes, and the words of 1 to 16 measures.
 #[derive(Drop)]
 pub(crate) struct StudyTexts {
     pub(crate) names: Vec<String>,
@@ -35,7 +37,7 @@ impl Model for StudyTexts {
         ≡ true };
 }
 
-/// The texts in these bytes. There are none where the bytes are no TOML document of a study's form.
+/// The texts in these bytes. There are none if the bytes are no TOML document of a study's form.
 pub(crate) fn read_texts(alloc: Global, bytes: &[u8]) -> Result<StudyTexts, StudyRefusal>
     ensures { MatchResult result (λ texts. texts_in bytes.now ≡ Some texts)
         (λ refusal. IsRefused (texts_in bytes.now) refusal) }
@@ -68,25 +70,23 @@ fn is_in_form(names: &[String], words: &[String]) -> bool
     ensures { result
         ≡ spec.is_in_form (record { names = map string_bytes names.now; words = map string_bytes words.now }) }
 {
-    have_name_length(names) && is_within(1, 16, words.len())
+    have_name_length(names) && is_within(1, MOST_COMPARED_MEASURES, words.len())
 }
 
 fn have_name_length(names: &[String]) -> bool
     ensures { result ≡ list_all (λ name. has_name_length (string_bytes name)) names.now }
 {
-    names
-        .iter()
-        .all(|name| is_within(1, 255, name.as_bytes().len()))
+    names.iter().all(|name| is_within(1, MOST_SHELF_NAME_BYTES, name.as_bytes().len()))
 }
 
 /// Whether a number lies between these two, or is one of them.
 pub(crate) fn is_within(least: usize, most: usize, number: usize) -> bool
-    ensures { result ≡ spec.is_within least most number }
+    ensures { result ≡ fields.is_within least most number }
 {
     least <= number && number <= most
 }
 
-/// The strings in the array at a key. There are none where the key has no array, or anything else stands in it.
+/// The strings in the array at a key. There are none if the key has no array, or anything else stands in it.
 fn strings_at(alloc: Global, table: &Table, key: &str) -> Result<Vec<String>, StudyRefusal>
     ensures { MatchResult result
         (λ texts. spec.strings_at key.now (table_view table.now) ≡ Some (map string_bytes texts.items))

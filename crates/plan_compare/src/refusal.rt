@@ -1,4 +1,5 @@
 ghost use Rattle.std.specs.Prelude.{◌≡◌};
+ghost use Rattle.plan_compare.specs.Refusals as spec;
 
 use std::alloc::AllocError;
 use thiserror::Error;
@@ -24,32 +25,49 @@ pub enum StudyRefusal {
     NoMemory,
 }
 
-impl StudyRefusal {
-    ghost use Rattle.plan_compare.specs.Refusals.{arguments_of, number_of};
+/// The number and the arguments by which a refusal is reported.
+#[derive(Clone, Copy, Debug)]
+struct RefusalCode {
+    number: u32,
+    /// In order, at most two.
+    arguments: [Option<u64>; 2],
+}
 
-    /// The number by which the refusal is told, and 0 for want of memory.
+fn code(number: u32, argument: Option<u64>) -> RefusalCode
+    ensures { result ≡ spec.code number argument }
+{
+    RefusalCode {
+        number,
+        arguments: [argument, None],
+    }
+}
+
+impl StudyRefusal {
+    ghost use Rattle.plan_compare.specs.Refusals.{arguments_of, code_of, number_of};
+
+    /// The number by which the refusal is reported, and 0 for lack of memory.
     pub fn number(&self) -> u32
         ensures { result ≡ number_of self.now }
     {
-        match self {
-            StudyRefusal::BadStudy => 60,
-            StudyRefusal::UnknownMeasure(_) => 61,
-            StudyRefusal::PlanCount(_) => 62,
-            StudyRefusal::StudyTooLong(_) => 63,
-            StudyRefusal::NoMemory => 0,
-        }
+        self.code().number
     }
 
     /// Its arguments in order, at most two.
     pub fn arguments(&self) -> [Option<u64>; 2]
         ensures { result ≡ arguments_of self.now }
     {
+        self.code().arguments
+    }
+
+    fn code(&self) -> RefusalCode
+        ensures { result ≡ code_of self.now }
+    {
         match self {
-            StudyRefusal::BadStudy => [None, None],
-            StudyRefusal::UnknownMeasure(place) => [Some(*place), None],
-            StudyRefusal::PlanCount(count) => [Some(*count), None],
-            StudyRefusal::StudyTooLong(bytes) => [Some(*bytes), None],
-            StudyRefusal::NoMemory => [None, None],
+            StudyRefusal::BadStudy => code(60, None),
+            StudyRefusal::UnknownMeasure(place) => code(61, Some(*place)),
+            StudyRefusal::PlanCount(count) => code(62, Some(*count)),
+            StudyRefusal::StudyTooLong(bytes) => code(63, Some(*bytes)),
+            StudyRefusal::NoMemory => code(0, None),
         }
     }
 }

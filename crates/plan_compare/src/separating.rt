@@ -1,5 +1,5 @@
 ghost use Rattle.std.specs.Prelude.{◌≡◌, ◌+◌, ◌-◌, ◌<◌, ◌≤◌, [], ◌++◌, length, map};
-ghost use Rattle.plan_compare.specs.Truth.{AreContained, AreTrue};
+ghost use Rattle.plan_compare.specs.Truth.{AreTrue, ContainsPlans};
 ghost use Rattle.plan_compare.specs.Verdicts as spec;
 ghost use Rattle.plan_compare.specs.Verdicts.{all_pairs, pairs_from, pairs_of, verdict_of, verdicts_of};
 
@@ -9,7 +9,7 @@ use hyper_model::{Enclosures, Measure};
 
 /// The verdicts of a study over the lists of its plans' measures, in the order of the plans.
 ///
-/// For each measure each two plans are compared, by the place of the first and then by that of the second. Where the
+/// For each measure each two plans are compared, by the place of the first and then by that of the second. If the
 /// lists are those of accepted plans, each pair of ends contains its measure for every solution of the plan's balance
 /// equations, and a verdict holds for whichever solutions of the two plans.
 pub fn verdicts(study: &Study, found: &[Enclosures], out: &mut VerdictList)
@@ -17,7 +17,7 @@ pub fn verdicts(study: &Study, found: &[Enclosures], out: &mut VerdictList)
     requires empty { out.old.items ≡ [] }
     requires room { length (all_pairs study.now) ≤ out.old.spare }
     ensures exact { out.new.items ≡ verdicts_of study.now found.now }
-    ensures contained { AreContained study.now found.now }
+    ensures contained { ContainsPlans study.now found.now }
     ensures proved { AreTrue study.now found.now out.new.items }
 {
     for k in 0..study.measures() {
@@ -25,7 +25,7 @@ pub fn verdicts(study: &Study, found: &[Enclosures], out: &mut VerdictList)
     }
 }
 
-/// Puts the verdicts on a measure behind the others.
+/// Puts the verdicts on a measure after the others.
 fn push_verdicts(out: &mut VerdictList, found: &[Enclosures], measure: Measure)
     requires { length (pairs_of (length found.now) measure) ≤ out.old.spare }
     ensures items { out.new.items
@@ -37,7 +37,7 @@ fn push_verdicts(out: &mut VerdictList, found: &[Enclosures], measure: Measure)
     }
 }
 
-/// Puts the verdicts on the plan at place `a` and each behind it.
+/// Puts the verdicts on the plan at place `a` and each after it.
 fn push_verdicts_from(out: &mut VerdictList, found: &[Enclosures], measure: Measure, a: usize)
     requires place { a < length found.now }
     requires room { length found.now - (a + 1) ≤ out.old.spare }
@@ -51,7 +51,7 @@ fn push_verdicts_from(out: &mut VerdictList, found: &[Enclosures], measure: Meas
     }
 }
 
-/// What the ends of a measure in two plans tell.
+/// What the ends of a measure in two plans say.
 fn verdict_on(first: Value, second: Value) -> Verdict
     ensures { result ≡ spec.verdict_on first second }
 {

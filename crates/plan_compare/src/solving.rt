@@ -11,8 +11,8 @@ use std::thread::{Threads, join};
 /// All measures of each plan, in the order of the plans, found by 1 to 16 workers.
 ///
 /// The plans are shared out by halves among the workers, and each is solved by one. Each entry that an elimination
-/// changes is computed by the gate, which is told the plan's place, counted from 0. Neither the number of workers nor
-/// the gate has a part in what is found. There is an error for want of memory alone.
+/// changes is computed by the gate, which is given the plan's place, counted from 0. Neither the number of workers nor
+/// the gate has a part in what is found. There is an error only for lack of memory.
 pub fn enclose_all<R: Threads + Sync, G: Gate + Sync>(
     rt: &R,
     alloc: Global,
@@ -50,7 +50,7 @@ fn enclose_from<R: Threads + Sync, G: Gate + Sync>(
     let fewer = workers / 2;
     let more = workers - fewer;
     let later = place + half;
-    let (before, behind) = join(
+    let (before, after) = join(
         rt,
         || -> Result<Vec<Enclosures>, AllocError>
             requires { IsSync R.row × IsSync G.row × (1 ≤ fewer) × (place + length left.now < 2 ^ 64) }
@@ -62,7 +62,7 @@ fn enclose_from<R: Threads + Sync, G: Gate + Sync>(
         { enclose_from(rt, alloc, right, more, gate, later) },
     );
     let mut all = before?;
-    let mut rest = behind?;
+    let mut rest = after?;
     all.append(&mut rest)?;
     Ok(all)
 }

@@ -1,18 +1,30 @@
 ghost use Rattle.std.specs.Prelude.{◌≡◌, ◌<◌, ◌≤◌, ◌⊎◌, true, [], length, map, IfOk, IfErr, OnOk, Some, None, slice_get, slice_index_or, string_bytes, filter_map, All};
-ghost use Rattle.report_text.specs.Reports.{is_of_region};
-ghost use Rattle.plan_compare.specs.Asked as asked;
+ghost use Rattle.hyper_model.specs.Measures as hyper_measures;
+ghost use Rattle.hyper_model.specs.Measures.{is_of_region};
+ghost use Rattle.hyper_model.specs.Plans.{IsBetween};
+ghost use Rattle.outer_world.specs.declared.shelf.TheConstants.{MOST_SHELF_NAME_BYTES};
+ghost use Rattle.plan_text.specs.Steps.{Gives};
 ghost use Rattle.plan_compare.specs.Studies as spec;
-ghost use Rattle.plan_compare.specs.Studies.{Gives, IsBetween, study_of, unknown_refusal};
+ghost use Rattle.plan_compare.specs.Studies.{study_of, unknown_refusal};
+ghost use Rattle.plan_compare.specs.declared.study.TheConstants.{LEAST_PLANS, MOST_COMPARED_MEASURES, MOST_PLANS};
 
 use crate::StudyRefusal;
-use crate::asked::measure_named;
 use crate::document::{StudyTexts, is_within, read_texts};
-use hyper_model::Measure;
+use hyper_model::{Measure, measure_named};
 use std::alloc::Global;
 use std::marker::Model;
 
 /// The most bytes that the text of a study has.
 pub const MOST_STUDY_BYTES: usize = 4_194_304;
+
+/// The fewest plans that are compared.
+pub const LEAST_PLANS: usize = 2;
+
+/// The most plans that are compared.
+pub const MOST_PLANS: usize = 16;
+
+/// The most measures by which plans are compared.
+pub const MOST_COMPARED_MEASURES: usize = 16;
 
 /// Plans, and the measures of the whole region by which they are to be compared.
 #[derive(Debug, Drop)]
@@ -38,8 +50,8 @@ impl Study {
     /// How many plans there are, 2 to 16.
     pub fn plans(&self) -> usize
         ensures number { result ≡ length self.now.plans }
-        ensures least { 2 ≤ result }
-        ensures most { result ≤ 16 }
+        ensures least { LEAST_PLANS ≤ result }
+        ensures most { result ≤ MOST_PLANS }
     {
         self.names.len()
     }
@@ -48,7 +60,7 @@ impl Study {
     pub fn plan_name(&self, i: usize) -> &str
         requires { i < length self.now.plans }
         ensures name { result.now ≡ slice_index_or self.now.plans i [] }
-        ensures length { IsBetween 1 255 (length result.now) }
+        ensures length { IsBetween 1 MOST_SHELF_NAME_BYTES (length result.now) }
     {
         self.names[i].as_str()
     }
@@ -57,7 +69,7 @@ impl Study {
     pub fn measures(&self) -> usize
         ensures number { result ≡ length self.now.measures }
         ensures least { 1 ≤ result }
-        ensures most { result ≤ 16 }
+        ensures most { result ≤ MOST_COMPARED_MEASURES }
         ensures region { All (λ m. is_of_region m ≡ true) self.now.measures }
     {
         self.measures.len()
@@ -79,7 +91,7 @@ impl Study {
 /// A text that is too long is refused first, then a document of another form, then the number of plans, and last the
 /// first word that names no measure.
 pub fn read_study(alloc: Global, bytes: &[u8]) -> Result<Study, StudyRefusal>
-    ensures { Gives result (study_of bytes.now) }
+    ensures { Gives StudyRefusal.NoMemory (λ study. study) result (study_of bytes.now) }
 {
     if bytes.len() > MOST_STUDY_BYTES {
         return Err(StudyRefusal::StudyTooLong(bytes.len() as u64));
@@ -92,10 +104,10 @@ pub fn read_study(alloc: Global, bytes: &[u8]) -> Result<Study, StudyRefusal>
 
 /// The study of the texts in a document.
 fn study_of_texts(alloc: Global, texts: StudyTexts) -> Result<Study, StudyRefusal>
-    ensures { Gives result (spec.study_of_texts texts) }
+    ensures { Gives StudyRefusal.NoMemory (λ study. study) result (spec.study_of_texts texts) }
 {
     let count = texts.names.len();
-    if !is_within(2, 16, count) {
+    if !is_within(LEAST_PLANS, MOST_PLANS, count) {
         return Err(StudyRefusal::PlanCount(count as u64));
     }
     let measures = measures_named(alloc, &texts.words)?;
@@ -109,7 +121,7 @@ fn study_of_texts(alloc: Global, texts: StudyTexts) -> Result<Study, StudyRefusa
 fn measures_named(alloc: Global, words: &[String]) -> Result<Vec<Measure>, StudyRefusal>
     ensures known { OnOk result (unknown_refusal (map string_bytes words.now) ≡ None) }
     ensures measures { IfOk result (λ measures.
-        measures.items ≡ filter_map asked.measure_named (map string_bytes words.now)) }
+        measures.items ≡ filter_map hyper_measures.measure_named (map string_bytes words.now)) }
     ensures number { IfOk result (λ measures. length measures.items ≡ length words.now) }
     ensures region { IfOk result (λ measures. All (λ m. is_of_region m ≡ true) measures.items) }
     ensures unknown { IfErr result (λ refusal.
@@ -117,7 +129,7 @@ fn measures_named(alloc: Global, words: &[String]) -> Result<Vec<Measure>, Study
 {
     let mut measures = Vec::new(alloc);
     for (place, word) in words.iter().enumerate() {
-        let Some(measure) = measure_named(word.as_bytes()) else {
+        let Some(measure) = measure_named(word.as_str()) else {
             return Err(StudyRefusal::UnknownMeasure(place as u64 + 1));
         };
         measures.extend_from_slice(&[measure])?;

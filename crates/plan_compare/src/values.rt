@@ -2,7 +2,6 @@ ghost use Rattle.std.specs.Prelude.{◌≡◌, ◌<◌, ◌≤◌, length, IfSom
 ghost use Rattle.hyper_model.specs.Enclosures.{IsOrderedEnclosed};
 ghost use Rattle.plan_compare.specs.Values as spec;
 
-use crate::asked::word;
 use hyper_model::{Enclosed, Enclosures, Found, Measure};
 
 /// The ends between which a measure of a plan lies, in units of its last printed digit.
@@ -12,20 +11,19 @@ pub(crate) struct Value {
     pub(crate) hi: u64,
 }
 
-/// What an item tells of a measure of the whole region.
+/// What an item says of a measure.
 fn value_of(item: Enclosed, measure: Measure) -> Option<Value>
     requires { IsOrderedEnclosed item }
     ensures value { result ≡ spec.value_of measure item }
     ensures ordered { IfSome result (λ value. value.lo ≤ value.hi) }
 {
     match item.found {
-        Found::Ends(lo, hi) if word(item.measure) == word(measure) => Some(Value { lo, hi }),
+        Found::Ends(lo, hi) if item.measure == measure => Some(Value { lo, hi }),
         _ => None,
     }
 }
 
-/// The ends that a plan's list has for a measure of the whole region, or 0 and 0 where the plan's line has no such
-/// measure.
+/// The ends that a plan's list has for a measure, or 0 and 0 if the plan's line has no such measure.
 fn value_in(list: &Enclosures, measure: Measure) -> Value
     ensures value { result ≡ spec.value_in measure list.now.items }
     ensures ordered { result.lo ≤ result.hi }

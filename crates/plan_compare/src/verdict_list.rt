@@ -9,7 +9,7 @@ pub enum Verdict {
     Below,
     /// It is less in the second plan.
     Above,
-    /// The ends overlap or touch, and tell neither.
+    /// The ends overlap or touch, and say neither.
     NotSeparated,
 }
 
@@ -47,7 +47,7 @@ impl VerdictList {
         })
     }
 
-    /// Puts a verdict behind the others, into the room that was set aside.
+    /// Puts a verdict after the others, into the room that was set aside.
     pub(crate) fn push(&mut self, verdict: Verdict)
         requires { 1 ≤ self.old.spare }
         ensures items { self.new.items ≡ self.old.items ++ verdict ∷ [] }
@@ -90,10 +90,11 @@ impl VerdictList {
 ghost use Rattle.std.specs.Prelude.{◌≡◌, ◌*◌, ◌/◌, ◌-◌, ◌≤◌, ℕ, length};
 ghost use Rattle.hyper_model.specs.declared.kinds.Measure as declared_measure;
 ghost use Rattle.plan_compare.specs.Verdicts.{pairs_of};
+ghost use Rattle.plan_compare.specs.declared.study.TheConstants.{MOST_PLANS};
 
-/// How many pairs so many plans make.
+/// How many pairs so many plans have.
 pub(crate) fn pair_count(plans: usize) -> usize
-    requires { plans ≤ 16 }
+    requires { plans ≤ MOST_PLANS }
     ensures pairs { (m : declared_measure.Measure) → result ≡ length (pairs_of plans m) }
     ensures most { result ≤ 120 }
 {

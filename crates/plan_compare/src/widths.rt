@@ -1,7 +1,6 @@
 ghost use Rattle.std.specs.Prelude.{◌≡◌, ◌<◌, ◌≤◌, false, None, Some, length, IfErr, OnOk};
-ghost use Rattle.std.specs.List.{range_with_len};
-ghost use Rattle.plan_compare.specs.Comparisons as spec;
-ghost use Rattle.plan_compare.specs.Comparisons.{all_asked, asked_at, first_wide_of, is_wide_value};
+ghost use Rattle.plan_compare.specs.declared.study.TheConstants.{MOST_PLANS};
+ghost use Rattle.plan_compare.specs.Comparisons.{first_wide_of, is_wide_value, places_in, value_places};
 
 use crate::values::{Value, value_at};
 use crate::{CompareEnd, Study};
@@ -15,8 +14,8 @@ pub(crate) fn check_widths(
     widths: Widths,
 ) -> Result<(), CompareEnd>
     requires { length found.now ≡ length study.now.plans }
-    ensures narrow { OnOk result (first_wide_of widths found.now (all_asked study.now) ≡ None) }
-    ensures wide { IfErr result (λ end. first_wide_of widths found.now (all_asked study.now) ≡ Some end) }
+    ensures narrow { OnOk result (first_wide_of widths found.now (value_places study.now) ≡ None) }
+    ensures wide { IfErr result (λ end. first_wide_of widths found.now (value_places study.now) ≡ Some end) }
 {
     for place in 0..study.plans() {
         check_plan(study, found, place, widths)?;
@@ -32,10 +31,10 @@ fn check_plan(
     widths: Widths,
 ) -> Result<(), CompareEnd>
     requires place { place < length found.now }
-    requires few { length found.now ≤ 16 }
-    ensures narrow { OnOk result (first_wide_of widths found.now (asked_at study.now.measures place) ≡ None) }
+    requires few { length found.now ≤ MOST_PLANS }
+    ensures narrow { OnOk result (first_wide_of widths found.now (places_in study.now.measures place) ≡ None) }
     ensures wide { IfErr result (λ end.
-        first_wide_of widths found.now (asked_at study.now.measures place) ≡ Some end) }
+        first_wide_of widths found.now (places_in study.now.measures place) ≡ Some end) }
 {
     for k in 0..study.measures() {
         let measure = study.measure(k);

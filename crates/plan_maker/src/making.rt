@@ -18,7 +18,7 @@ pub const MOST_PLAN_NUMBER: u64 = 4_294_967_295;
 
 /// The text of a plan of so many units, from 2 to 10, made from a number of at most 4,294,967,295.
 ///
-/// The same units and number make the same text. It is a plan for the line that turns calls away,
+/// The same units and number give the same text. It is a plan for the line that turns calls away,
 /// with a rule in place of preference lists.
 pub fn make(alloc: Global, units: u64, number: u64) -> Result<Vec<u8>, MakeRefusal>
     ensures text { IfOk result (λ text. text.items ≡ plan_bytes units number) }

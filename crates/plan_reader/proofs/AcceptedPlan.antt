@@ -1,21 +1,21 @@
 -- The parts that records in form give are those of an accepted plan.
 use Rattle.std.proofs.Common.{◌≡◌, ◌∙◌, ℕ, ◌<◌, true, false, refl, sym, subst, arith}
-use Rattle.std.specs.Prelude.{Bool, if◌then◌else◌, nat_lt, List, length, Option, Some, None, Result, Ok, Err, IsOk, MatchResult}
+use Rattle.std.specs.Prelude.{Bool, if◌then◌else◌, nat_lt, List, length, Option, Some, None, Result, Ok, Err}
 use Rattle.std.proofs.lemmas.Bool.Decides.{nat_tests}
 use Rattle.hyper_model.specs.Grid.{Grid}
 use Rattle.hyper_model.specs.Groups.{GroupLists}
-use Rattle.hyper_model.specs.Plans.{IsAccepted, IsBetween, IsStable, all_calls, all_service, no_atom, no_unit}
+use Rattle.hyper_model.specs.Plans.{IsAccepted, IsBetween, IsStable, calls_in, service_in}
 use Rattle.hyper_model.specs.declared.kinds.Line.{Line}
 use Rattle.hyper_model.specs.declared.kinds.Line.TheVariants as line
-use Rattle.hyper_model.specs.declared.parts.Atom.{Atom}
 use Rattle.hyper_model.specs.declared.parts.PlanParts.{PlanParts}
-use Rattle.hyper_model.specs.declared.parts.Unit as declared_unit
 use Rattle.plan_text.specs.Form.{IsInForm}
+use Rattle.plan_text.specs.Reading.{records_of}
+use Rattle.plan_text.specs.Steps.{◌>>=◌, unless_refused}
+use Rattle.plan_text.proofs.InForm.{records_of-form}
 use Rattle.plan_text.specs.declared.record.Record.{Record}
-use Rattle.atom_table.specs.Entries.{Entries, HasEntries, calls_sum, service_sum}
+use Rattle.atom_table.specs.Entries.{Entries, HasEntries}
 use Rattle.atom_table.specs.Refusals.{entries_of}
 use Rattle.atom_table.proofs.AcceptedEntries.{has_atoms, has_entries, has_units}
-use Rattle.atom_table.proofs.RateSums.{sum_by-below}
 use Rattle.atom_table.proofs.StepByStep.{entries_of-ok}
 use Rattle.travel_table.specs.Travel.{travel_of}
 use Rattle.travel_table.proofs.AcceptedTravel.{has_travel}
@@ -24,7 +24,8 @@ use Rattle.unit_location.proofs.AcceptedLocations.{has_locations}
 use Rattle.unit_location.proofs.LocationSteps.{located_of-ok}
 use Rattle.preference_rules.specs.Given.{preferences_of}
 use Rattle.preference_rules.proofs.AcceptedLists.{has_lists}
-use Rattle.plan_reader.specs.PlanOf.{parts_of, stable_refusal}
+use Rattle.plan_reader.specs.PlanOf.{parts_of, plan_in, plan_of, plan_result, stable_refusal}
+use Rattle.plan_reader.specs.Refusals.{of_atom, of_list, of_location, of_text, of_travel}
 use Rattle.plan_reader.specs.Settings.{settings_of}
 use Rattle.plan_reader.specs.declared.refusal.PlanRefusal.{PlanRefusal}
 use Rattle.plan_reader.specs.declared.refusal.PlanRefusal.TheVariants.{NotStable}
@@ -38,12 +39,11 @@ below_true a b e h = by (nat_lt a b) refl h
     by true t q = grind (arith, nat_tests, t)
     by false t q = absurd (cc)
 
-is_stable : (line : Line) (entries : Entries) (calls service : ℕ) → calls ≡ calls_sum entries.atoms → service ≡ service_sum entries.units
-    → stable_refusal line entries ≡ None → IsStable line calls service
-is_stable line.Zero entries calls service c s h = tt
-is_stable line.Infinite entries calls service c s h =
-    let lt = below_true (calls_sum entries.atoms) (service_sum entries.units) (NotStable (calls_sum entries.atoms) (service_sum entries.units)) h in
-    omega (arith, lt, c, s)
+is_stable : (line : Line) (entries : Entries) → stable_refusal line entries ≡ None
+    → IsStable line (calls_in entries.atoms) (service_in entries.units)
+is_stable line.Zero entries h = tt
+is_stable line.Infinite entries h =
+    below_true (calls_in entries.atoms) (service_in entries.units) (NotStable (calls_in entries.atoms) (service_in entries.units)) h
 
 -- the table of the records keeps what its type says
 pub entries_kept : (records : List Record) (entries : Entries) → entries_of records ≡ Ok entries → HasEntries entries
@@ -66,10 +66,7 @@ accepted_parts records settings entries travel located lists form set given trip
       locations = has_locations records entries located (parts_of settings entries lists located travel) places refl refl refl;
       travel = has_travel records entries travel (parts_of settings entries lists located travel) form.values trips refl refl;
       period = subst (λ (s : Settings). IsBetween 1 100000000 s.period) (sym seen) period;
-      stable = is_stable settings.line entries (all_calls (parts_of settings entries lists located travel))
-          (all_service (parts_of settings entries lists located travel))
-          (sym (sum_by-below (λ (a : Atom). a.rate) entries.atoms no_atom))
-          (sym (sum_by-below (λ (u : declared_unit.Unit). u.rate) entries.units no_unit)) stable;
+      stable = is_stable settings.line entries stable;
     }
 
 -- the shape of a table of locations
@@ -79,8 +76,36 @@ located_rows records entries located given =
     let is = located_of-ok entries records located given in
     rw is.0 (refl, refl)
 
--- a plan that is never handed back
-pub is_ok_from : {A B : Type 0} (r : Result A B) (P : A → Type 0) (Q : Type 0) (R : B → Type 0) → Q
-    → MatchResult r P (λ back. R back × (Q → ⊥)) → IsOk r
-is_ok_from (Ok x) P Q R q h = refl
-is_ok_from (Err e) P Q R q h = absurd (h.1 q)
+-- a plan that the steps after a step give
+after_step : {A E : Type 0} (of_reader : E → PlanRefusal) (given : Result A E) (next : A → Result PlanParts PlanRefusal) (plan : PlanParts)
+    → (plan_result of_reader given >>= next) ≡ Ok plan → ((x : A) → given ≡ Ok x → next x ≡ Ok plan → IsAccepted plan) → IsAccepted plan
+after_step of_reader (Ok x) next plan h so = so x refl h
+after_step of_reader (Err e) next plan h so = absurd (cc)
+
+after_settings : (given : Result Settings PlanRefusal) (next : Settings → Result PlanParts PlanRefusal) (plan : PlanParts)
+    → (given >>= next) ≡ Ok plan → ((x : Settings) → given ≡ Ok x → next x ≡ Ok plan → IsAccepted plan) → IsAccepted plan
+after_settings (Ok x) next plan h so = so x refl h
+after_settings (Err e) next plan h so = absurd (cc)
+
+after_all : (refused : Option PlanRefusal) (parts plan : PlanParts) → (unless_refused refused >>= λ _. Ok parts) ≡ Ok plan
+    → (refused ≡ None → IsAccepted parts) → IsAccepted plan
+after_all None parts plan h so = let is : parts ≡ plan = cc in subst IsAccepted is (so refl)
+after_all (Some e) parts plan h so = absurd (cc)
+
+-- the plan of records in form is accepted, and so is that of a text
+plan_in-accepted : (records : List Record) (plan : PlanParts) → IsInForm records → plan_in records ≡ Ok plan → IsAccepted plan
+unfolding plan_in
+plan_in-accepted records plan form h =
+    after_settings (settings_of records) _ plan h (λ settings set h1.
+    after_step of_atom (entries_of records) _ plan h1 (λ entries given h2.
+    after_step of_travel (travel_of entries records) _ plan h2 (λ travel trips h3.
+    after_step of_location (located_of entries records) _ plan h3 (λ located places h4.
+    after_step of_list (preferences_of settings.rule entries located records) _ plan h4 (λ lists preferred h5.
+    after_all (stable_refusal settings.line entries) (parts_of settings entries lists located travel) plan h5
+    (λ stable. accepted_parts records settings entries travel located lists form set given trips places preferred stable))))))
+
+pub plan_of-accepted : (bytes : List ℕ) (plan : PlanParts) → plan_of bytes ≡ Ok plan → IsAccepted plan
+unfolding plan_of
+plan_of-accepted bytes plan h =
+    after_step of_text (records_of bytes) plan_in plan h
+    (λ records read given. plan_in-accepted records plan (records_of-form bytes records read) given)

@@ -1,3 +1,4 @@
 -- lemmas, each file on one subject
 pub mod SettingSteps
 pub mod AcceptedPlan
+pub mod FirstCondition

@@ -2,13 +2,14 @@
 use Rattle.std.specs.Prelude.{ℕ, if◌then◌else◌, nat_lt, List, Option, Some, None, Result, Ok, Err}
 use Rattle.hyper_model.specs.Grid.{Grid}
 use Rattle.hyper_model.specs.Groups.{GroupLists}
+use Rattle.hyper_model.specs.Plans.{calls_in, service_in}
 use Rattle.hyper_model.specs.declared.kinds.Line.{Line}
 use Rattle.hyper_model.specs.declared.kinds.Line.TheVariants as line
 use Rattle.hyper_model.specs.declared.parts.PlanParts.{PlanParts}
 use Rattle.plan_text.specs.Reading.{records_of}
 use Rattle.plan_text.specs.Steps.{◌>>=◌, unless_refused}
 use Rattle.plan_text.specs.declared.record.Record.{Record}
-use Rattle.atom_table.specs.Entries.{Entries, calls_sum, service_sum}
+use Rattle.atom_table.specs.Entries.{Entries}
 use Rattle.atom_table.specs.Refusals.{entries_of}
 use Rattle.travel_table.specs.Travel.{travel_of}
 use Rattle.unit_location.specs.Located.{located_of}
@@ -20,16 +21,16 @@ use Rattle.plan_reader.specs.declared.refusal.PlanRefusal.TheVariants.{NotStable
 use Rattle.plan_reader.specs.declared.settings.Settings.{Settings}
 
 -- what a reader gives, with its refusal as one of the plan
-abbrev pub told : {A E : Type 0} → (E → PlanRefusal) → Result A E → Result A PlanRefusal
-told refusal (Ok x) = Ok x
-told refusal (Err e) = Err (refusal e)
+abbrev pub plan_result : {A E : Type 0} → (E → PlanRefusal) → Result A E → Result A PlanRefusal
+plan_result of_reader (Ok x) = Ok x
+plan_result of_reader (Err e) = Err (of_reader e)
 
 -- calls that wait have to be fewer than all units can serve
 abbrev pub stable_refusal : Line → Entries → Option PlanRefusal
 stable_refusal line.Zero entries = None
 stable_refusal line.Infinite entries =
-    if nat_lt (calls_sum entries.atoms) (service_sum entries.units) then None
-    else Some (NotStable (calls_sum entries.atoms) (service_sum entries.units))
+    if nat_lt (calls_in entries.atoms) (service_in entries.units) then None
+    else Some (NotStable (calls_in entries.atoms) (service_in entries.units))
 
 abbrev pub parts_of : Settings → Entries → GroupLists → Grid → Grid → PlanParts
 parts_of settings entries lists located travel = record {
@@ -48,13 +49,13 @@ parts_of settings entries lists located travel = record {
 unfoldable pub plan_in : List Record → Result PlanParts PlanRefusal
 plan_in records = do
   settings ← settings_of records
-  entries ← told of_atom (entries_of records)
-  travel ← told of_travel (travel_of entries records)
-  located ← told of_location (located_of entries records)
-  lists ← told of_list (preferences_of settings.rule entries located records)
+  entries ← plan_result of_atom (entries_of records)
+  travel ← plan_result of_travel (travel_of entries records)
+  located ← plan_result of_location (located_of entries records)
+  lists ← plan_result of_list (preferences_of settings.rule entries located records)
   stable ← unless_refused (stable_refusal settings.line entries)
   Ok (parts_of settings entries lists located travel)
 
 -- the plan of a text: that of its records
 unfoldable pub plan_of : List ℕ → Result PlanParts PlanRefusal
-plan_of bytes = told of_text (records_of bytes) >>= plan_in
+plan_of bytes = plan_result of_text (records_of bytes) >>= plan_in

@@ -12,70 +12,48 @@ use Rattle.preference_rules.specs.declared.refusal.ListRefusal.{ListRefusal}
 use Rattle.preference_rules.specs.declared.refusal.ListRefusal.TheVariants as list
 use Rattle.plan_reader.specs.declared.refusal.PlanRefusal.{PlanRefusal}
 use Rattle.plan_reader.specs.declared.refusal.PlanRefusal.TheVariants as plan
+use Rattle.plan_reader.specs.declared.refusal.RefusalCode.{RefusalCode}
 
--- by which number a refusal is told
+abbrev pub code : ℕ → Option ℕ → Option ℕ → RefusalCode
+code number first second = record { number = number; arguments = first ∷ second ∷ [] }
+
+-- the number and the arguments by which a refusal is reported
+abbrev pub code_of : PlanRefusal → RefusalCode
+code_of (plan.NotUtf8 row) = code 1 (Some row) None
+code_of (plan.TooLong bytes) = code 2 (Some bytes) None
+code_of (plan.UnknownKind row) = code 3 (Some row) None
+code_of (plan.FieldCount row) = code 4 (Some row) None
+code_of (plan.BadNumber row field) = code 5 (Some row) (Some field)
+code_of (plan.BadName row field) = code 6 (Some row) (Some field)
+code_of (plan.TooManyRecords row) = code 7 (Some row) None
+code_of (plan.DuplicateAtom row) = code 10 (Some row) None
+code_of (plan.DuplicateUnit row) = code 11 (Some row) None
+code_of (plan.TooManyAtoms row) = code 12 (Some row) None
+code_of (plan.TooManyUnits row) = code 13 (Some row) None
+code_of (plan.UnknownName row field) = code 14 (Some row) (Some field)
+code_of plan.NoUnits = code 15 None None
+code_of plan.NoAtoms = code 16 None None
+code_of plan.NoCalls = code 17 None None
+code_of (plan.RateSum sum) = code 18 (Some sum) None
+code_of (plan.ServiceSum sum) = code 19 (Some sum) None
+code_of (plan.DuplicateTravel row) = code 20 (Some row) None
+code_of (plan.MissingTravel origin target) = code 21 (Some origin) (Some target)
+code_of (plan.DuplicateLocation row) = code 30 (Some row) None
+code_of (plan.LocationSum unit sum) = code 31 (Some unit) (Some sum)
+code_of (plan.MissingList atom) = code 40 (Some atom) None
+code_of (plan.ListNotWhole atom) = code 41 (Some atom) None
+code_of (plan.ListNotAsked row) = code 42 (Some row) None
+code_of (plan.ListTwice row) = code 43 (Some row) None
+code_of (plan.Version row) = code 50 (Some row) None
+code_of (plan.SettingTwice row) = code 51 (Some row) None
+code_of (plan.NotStable calls service) = code 52 (Some calls) (Some service)
+code_of plan.NoMemory = code 0 None None
+
 abbrev pub number_of : PlanRefusal → ℕ
-number_of (plan.NotUtf8 row) = 1
-number_of (plan.TooLong bytes) = 2
-number_of (plan.UnknownKind row) = 3
-number_of (plan.FieldCount row) = 4
-number_of (plan.BadNumber row field) = 5
-number_of (plan.BadName row field) = 6
-number_of (plan.TooManyRecords row) = 7
-number_of (plan.DuplicateAtom row) = 10
-number_of (plan.DuplicateUnit row) = 11
-number_of (plan.TooManyAtoms row) = 12
-number_of (plan.TooManyUnits row) = 13
-number_of (plan.UnknownName row field) = 14
-number_of plan.NoUnits = 15
-number_of plan.NoAtoms = 16
-number_of plan.NoCalls = 17
-number_of (plan.RateSum sum) = 18
-number_of (plan.ServiceSum sum) = 19
-number_of (plan.DuplicateTravel row) = 20
-number_of (plan.MissingTravel origin target) = 21
-number_of (plan.DuplicateLocation row) = 30
-number_of (plan.LocationSum unit sum) = 31
-number_of (plan.MissingList atom) = 40
-number_of (plan.ListNotWhole atom) = 41
-number_of (plan.ListNotAsked row) = 42
-number_of (plan.ListTwice row) = 43
-number_of (plan.Version row) = 50
-number_of (plan.SettingTwice row) = 51
-number_of (plan.NotStable calls service) = 52
-number_of plan.NoMemory = 0
+number_of r = (code_of r).number
 
--- its arguments, at most two
 abbrev pub arguments_of : PlanRefusal → List (Option ℕ)
-arguments_of (plan.NotUtf8 row) = Some row ∷ None ∷ []
-arguments_of (plan.TooLong bytes) = Some bytes ∷ None ∷ []
-arguments_of (plan.UnknownKind row) = Some row ∷ None ∷ []
-arguments_of (plan.FieldCount row) = Some row ∷ None ∷ []
-arguments_of (plan.BadNumber row field) = Some row ∷ Some field ∷ []
-arguments_of (plan.BadName row field) = Some row ∷ Some field ∷ []
-arguments_of (plan.TooManyRecords row) = Some row ∷ None ∷ []
-arguments_of (plan.DuplicateAtom row) = Some row ∷ None ∷ []
-arguments_of (plan.DuplicateUnit row) = Some row ∷ None ∷ []
-arguments_of (plan.TooManyAtoms row) = Some row ∷ None ∷ []
-arguments_of (plan.TooManyUnits row) = Some row ∷ None ∷ []
-arguments_of (plan.UnknownName row field) = Some row ∷ Some field ∷ []
-arguments_of plan.NoUnits = None ∷ None ∷ []
-arguments_of plan.NoAtoms = None ∷ None ∷ []
-arguments_of plan.NoCalls = None ∷ None ∷ []
-arguments_of (plan.RateSum sum) = Some sum ∷ None ∷ []
-arguments_of (plan.ServiceSum sum) = Some sum ∷ None ∷ []
-arguments_of (plan.DuplicateTravel row) = Some row ∷ None ∷ []
-arguments_of (plan.MissingTravel origin target) = Some origin ∷ Some target ∷ []
-arguments_of (plan.DuplicateLocation row) = Some row ∷ None ∷ []
-arguments_of (plan.LocationSum unit sum) = Some unit ∷ Some sum ∷ []
-arguments_of (plan.MissingList atom) = Some atom ∷ None ∷ []
-arguments_of (plan.ListNotWhole atom) = Some atom ∷ None ∷ []
-arguments_of (plan.ListNotAsked row) = Some row ∷ None ∷ []
-arguments_of (plan.ListTwice row) = Some row ∷ None ∷ []
-arguments_of (plan.Version row) = Some row ∷ None ∷ []
-arguments_of (plan.SettingTwice row) = Some row ∷ None ∷ []
-arguments_of (plan.NotStable calls service) = Some calls ∷ Some service ∷ []
-arguments_of plan.NoMemory = None ∷ None ∷ []
+arguments_of r = (code_of r).arguments
 
 abbrev pub of_text : TextRefusal → PlanRefusal
 of_text (text.NotUtf8 row) = plan.NotUtf8 row

@@ -4,8 +4,6 @@
 mod plan;
 mod refusal;
 mod settings;
-#[cfg(test)]
-mod tests;
 
-pub use plan::read_plan;
+pub use plan::{law_first_condition, law_plan, read_plan};
 pub use refusal::PlanRefusal;

@@ -1,15 +1,18 @@
-ghost use Rattle.std.specs.Prelude.{◌≡◌};
+ghost use Rattle.std.specs.Prelude.{◌≡◌, ◌<◌, ℕ, List, length, IfOk, Ok, Err, None};
 ghost use Rattle.hyper_model.specs.Plans.{IsAccepted};
+ghost use Rattle.hyper_model.specs.declared.parts.PlanParts.{PlanParts};
 ghost use Rattle.plan_text.specs.Form.{IsInForm};
 ghost use Rattle.plan_text.specs.Steps.{Gives, Refuses};
-ghost use Rattle.atom_table.specs.Entries as entries;
+ghost use Rattle.plan_text.specs.declared.record.Record.{Record};
+ghost use Rattle.plan_reader.specs.Conditions.{IsFirstCondition, condition_at, conditions, parts_in};
+ghost use Rattle.plan_reader.specs.declared.refusal.PlanRefusal.{PlanRefusal};
 ghost use Rattle.plan_reader.specs.PlanOf as spec;
 ghost use Rattle.plan_reader.specs.PlanOf.{plan_of, stable_refusal};
 
 use crate::PlanRefusal;
 use crate::settings::read_settings;
 use atom_table::AtomTable;
-use hyper_model::{Atoms, Line, Plan, PlanParts, Units};
+use hyper_model::{Line, Plan, PlanParts};
 use plan_text::{Record, records};
 use preference_rules::preferences;
 use std::alloc::Global;
@@ -19,11 +22,12 @@ use unit_location::Locations;
 /// The plan of a text.
 ///
 /// The text is read in steps, and the refusal is that of the first step that refuses: its records, their settings, the
-/// units and atoms, the travel times, the locations, the preference lists, and last, where calls wait, that they are fewer
-/// than the units can serve.
+/// units and atoms, the travel times, the locations, the preference lists, and last, if calls wait, that they are fewer than
+/// the units can serve. The plan is accepted.
 #[tactic(auto, unfolding(crate::specs::PlanOf::plan_of))]
 pub fn read_plan(alloc: Global, bytes: &[u8]) -> Result<Plan, PlanRefusal>
-    ensures { Gives PlanRefusal.NoMemory (λ plan. plan) result (plan_of bytes.now) }
+    ensures plan { Gives PlanRefusal.NoMemory (λ plan. plan) result (plan_of bytes.now) }
+    ensures accepted { IfOk result (λ plan. IsAccepted plan) }
 {
     let records = records(alloc, bytes)?;
     plan_in(alloc, &records)
@@ -33,7 +37,8 @@ pub fn read_plan(alloc: Global, bytes: &[u8]) -> Result<Plan, PlanRefusal>
 #[tactic(auto, unfolding(crate::specs::PlanOf::plan_in))]
 fn plan_in(alloc: Global, records: &[Record]) -> Result<Plan, PlanRefusal>
     requires { IsInForm records.now }
-    ensures { Gives PlanRefusal.NoMemory (λ plan. plan) result (spec.plan_in records.now) }
+    ensures plan { Gives PlanRefusal.NoMemory (λ plan. plan) result (spec.plan_in records.now) }
+    ensures accepted { IfOk result (λ plan. IsAccepted plan) }
 {
     let settings = read_settings(records)?;
     let names = AtomTable::of(alloc, records)?;
@@ -52,26 +57,18 @@ fn plan_in(alloc: Global, records: &[Record]) -> Result<Plan, PlanRefusal>
         located: located.into_table(),
         travel: travel.into_table(),
     };
-    Ok(accepted(parts))
+    Ok(Plan::of_accepted(parts))
 }
 
-/// The plan of parts that are accepted.
-fn accepted(parts: PlanParts) -> Plan
-    requires { IsAccepted parts }
-    ensures { result ≡ parts }
-{
-    Plan::of(parts).unwrap()
-}
-
-/// Refuses calls that wait where the units cannot serve them all.
+/// Refuses calls that wait if the units cannot serve them all.
 fn check_stable(line: Line, names: &AtomTable) -> Result<(), PlanRefusal>
     ensures { Refuses result (stable_refusal line names.now) }
 {
     match line {
         Line::Zero => Ok(()),
         Line::Infinite => {
-            let calls = calls_sum(names.atoms());
-            let service = service_sum(names.units());
+            let calls = names.atoms().calls();
+            let service = names.units().service();
             if calls < service {
                 Ok(())
             } else {
@@ -81,28 +78,18 @@ fn check_stable(line: Line, names: &AtomTable) -> Result<(), PlanRefusal>
     }
 }
 
-/// The rate of all calls.
-fn calls_sum(atoms: &Atoms) -> u64
-    ensures { result ≡ entries.calls_sum atoms.now }
-{
-    let mut total = 0;
-    for j in 0..atoms.len() {
-        let atom = atoms.get(j);
-        let rate = u64::from(atom.rate);
-        total += rate;
-    }
-    total
-}
+/// The plan of a text, if it has one, is accepted.
+pub fn law_plan()
+    ensures { (bytes : List ℕ) (plan : PlanParts) → plan_of bytes ≡ Ok plan → IsAccepted plan }
+{}
 
-/// The rate at which all units together serve.
-fn service_sum(units: &Units) -> u64
-    ensures { result ≡ entries.service_sum units.now }
-{
-    let mut total = 0;
-    for n in 0..units.len() {
-        let unit = units.get(n);
-        let rate = u64::from(unit.rate);
-        total += rate;
-    }
-    total
-}
+/// The refusal of records is that of the first of all conditions that holds, and records for which none holds give the
+/// plan of their parts.
+pub fn law_first_condition()
+    ensures first { (records : List Record) (e : PlanRefusal) → spec.plan_in records ≡ Err e
+        → (place : ℕ) × IsFirstCondition conditions records place e }
+    ensures only { (records : List Record) (place : ℕ) (e : PlanRefusal) → IsFirstCondition conditions records place e
+        → spec.plan_in records ≡ Err e }
+    ensures none { (records : List Record) → ((k : ℕ) → k < length conditions → condition_at conditions k records ≡ None)
+        → spec.plan_in records ≡ Ok (parts_in records) }
+{}

@@ -1,4 +1,5 @@
 ghost use Rattle.std.specs.Prelude.{◌≡◌};
+ghost use Rattle.plan_reader.specs.Refusals as spec;
 
 use atom_table::AtomRefusal;
 use plan_text::TextRefusal;
@@ -27,7 +28,7 @@ pub enum PlanRefusal {
     /// In this record, this field is no number in the range that is asked for.
     #[error("record {0} has no number in range in field {1}")]
     BadNumber(u64, u64),
-    /// In this record, this field is no name, or none of the words that may stand there.
+    /// In this record, this field is no name, or none of the keywords that may stand there.
     #[error("record {0} has no name or known word in field {1}")]
     BadName(u64, u64),
     /// This record is the first of more than 50,000.
@@ -101,80 +102,73 @@ pub enum PlanRefusal {
     NoMemory,
 }
 
-impl PlanRefusal {
-    ghost use Rattle.plan_reader.specs.Refusals.{arguments_of, number_of};
+/// The number and the arguments by which a refusal is reported.
+#[derive(Clone, Copy, Debug)]
+struct RefusalCode {
+    number: u32,
+    /// In order, at most two.
+    arguments: [Option<u64>; 2],
+}
 
-    /// The number by which the refusal is told, and 0 for want of memory.
+fn code(number: u32, first: Option<u64>, second: Option<u64>) -> RefusalCode
+    ensures { result ≡ spec.code number first second }
+{
+    RefusalCode {
+        number,
+        arguments: [first, second],
+    }
+}
+
+impl PlanRefusal {
+    ghost use Rattle.plan_reader.specs.Refusals.{arguments_of, code_of, number_of};
+
+    /// The number by which the refusal is reported, and 0 for lack of memory.
     pub fn number(&self) -> u32
         ensures { result ≡ number_of self.now }
     {
-        match self {
-            PlanRefusal::NotUtf8(_) => 1,
-            PlanRefusal::TooLong(_) => 2,
-            PlanRefusal::UnknownKind(_) => 3,
-            PlanRefusal::FieldCount(_) => 4,
-            PlanRefusal::BadNumber(_, _) => 5,
-            PlanRefusal::BadName(_, _) => 6,
-            PlanRefusal::TooManyRecords(_) => 7,
-            PlanRefusal::DuplicateAtom(_) => 10,
-            PlanRefusal::DuplicateUnit(_) => 11,
-            PlanRefusal::TooManyAtoms(_) => 12,
-            PlanRefusal::TooManyUnits(_) => 13,
-            PlanRefusal::UnknownName(_, _) => 14,
-            PlanRefusal::NoUnits => 15,
-            PlanRefusal::NoAtoms => 16,
-            PlanRefusal::NoCalls => 17,
-            PlanRefusal::RateSum(_) => 18,
-            PlanRefusal::ServiceSum(_) => 19,
-            PlanRefusal::DuplicateTravel(_) => 20,
-            PlanRefusal::MissingTravel(_, _) => 21,
-            PlanRefusal::DuplicateLocation(_) => 30,
-            PlanRefusal::LocationSum(_, _) => 31,
-            PlanRefusal::MissingList(_) => 40,
-            PlanRefusal::ListNotWhole(_) => 41,
-            PlanRefusal::ListNotAsked(_) => 42,
-            PlanRefusal::ListTwice(_) => 43,
-            PlanRefusal::Version(_) => 50,
-            PlanRefusal::SettingTwice(_) => 51,
-            PlanRefusal::NotStable(_, _) => 52,
-            PlanRefusal::NoMemory => 0,
-        }
+        self.code().number
     }
 
     /// Its arguments in order, at most two.
     pub fn arguments(&self) -> [Option<u64>; 2]
         ensures { result ≡ arguments_of self.now }
     {
+        self.code().arguments
+    }
+
+    fn code(&self) -> RefusalCode
+        ensures { result ≡ code_of self.now }
+    {
         match self {
-            PlanRefusal::NotUtf8(row) => [Some(*row), None],
-            PlanRefusal::TooLong(bytes) => [Some(*bytes), None],
-            PlanRefusal::UnknownKind(row) => [Some(*row), None],
-            PlanRefusal::FieldCount(row) => [Some(*row), None],
-            PlanRefusal::BadNumber(row, field) => [Some(*row), Some(*field)],
-            PlanRefusal::BadName(row, field) => [Some(*row), Some(*field)],
-            PlanRefusal::TooManyRecords(row) => [Some(*row), None],
-            PlanRefusal::DuplicateAtom(row) => [Some(*row), None],
-            PlanRefusal::DuplicateUnit(row) => [Some(*row), None],
-            PlanRefusal::TooManyAtoms(row) => [Some(*row), None],
-            PlanRefusal::TooManyUnits(row) => [Some(*row), None],
-            PlanRefusal::UnknownName(row, field) => [Some(*row), Some(*field)],
-            PlanRefusal::NoUnits => [None, None],
-            PlanRefusal::NoAtoms => [None, None],
-            PlanRefusal::NoCalls => [None, None],
-            PlanRefusal::RateSum(sum) => [Some(*sum), None],
-            PlanRefusal::ServiceSum(sum) => [Some(*sum), None],
-            PlanRefusal::DuplicateTravel(row) => [Some(*row), None],
-            PlanRefusal::MissingTravel(origin, target) => [Some(*origin), Some(*target)],
-            PlanRefusal::DuplicateLocation(row) => [Some(*row), None],
-            PlanRefusal::LocationSum(unit, sum) => [Some(*unit), Some(*sum)],
-            PlanRefusal::MissingList(atom) => [Some(*atom), None],
-            PlanRefusal::ListNotWhole(atom) => [Some(*atom), None],
-            PlanRefusal::ListNotAsked(row) => [Some(*row), None],
-            PlanRefusal::ListTwice(row) => [Some(*row), None],
-            PlanRefusal::Version(row) => [Some(*row), None],
-            PlanRefusal::SettingTwice(row) => [Some(*row), None],
-            PlanRefusal::NotStable(calls, service) => [Some(*calls), Some(*service)],
-            PlanRefusal::NoMemory => [None, None],
+            PlanRefusal::NotUtf8(row) => code(1, Some(*row), None),
+            PlanRefusal::TooLong(bytes) => code(2, Some(*bytes), None),
+            PlanRefusal::UnknownKind(row) => code(3, Some(*row), None),
+            PlanRefusal::FieldCount(row) => code(4, Some(*row), None),
+            PlanRefusal::BadNumber(row, field) => code(5, Some(*row), Some(*field)),
+            PlanRefusal::BadName(row, field) => code(6, Some(*row), Some(*field)),
+            PlanRefusal::TooManyRecords(row) => code(7, Some(*row), None),
+            PlanRefusal::DuplicateAtom(row) => code(10, Some(*row), None),
+            PlanRefusal::DuplicateUnit(row) => code(11, Some(*row), None),
+            PlanRefusal::TooManyAtoms(row) => code(12, Some(*row), None),
+            PlanRefusal::TooManyUnits(row) => code(13, Some(*row), None),
+            PlanRefusal::UnknownName(row, field) => code(14, Some(*row), Some(*field)),
+            PlanRefusal::NoUnits => code(15, None, None),
+            PlanRefusal::NoAtoms => code(16, None, None),
+            PlanRefusal::NoCalls => code(17, None, None),
+            PlanRefusal::RateSum(sum) => code(18, Some(*sum), None),
+            PlanRefusal::ServiceSum(sum) => code(19, Some(*sum), None),
+            PlanRefusal::DuplicateTravel(row) => code(20, Some(*row), None),
+            PlanRefusal::MissingTravel(origin, target) => code(21, Some(*origin), Some(*target)),
+            PlanRefusal::DuplicateLocation(row) => code(30, Some(*row), None),
+            PlanRefusal::LocationSum(unit, sum) => code(31, Some(*unit), Some(*sum)),
+            PlanRefusal::MissingList(atom) => code(40, Some(*atom), None),
+            PlanRefusal::ListNotWhole(atom) => code(41, Some(*atom), None),
+            PlanRefusal::ListNotAsked(row) => code(42, Some(*row), None),
+            PlanRefusal::ListTwice(row) => code(43, Some(*row), None),
+            PlanRefusal::Version(row) => code(50, Some(*row), None),
+            PlanRefusal::SettingTwice(row) => code(51, Some(*row), None),
+            PlanRefusal::NotStable(calls, service) => code(52, Some(*calls), Some(*service)),
+            PlanRefusal::NoMemory => code(0, None, None),
         }
     }
 }

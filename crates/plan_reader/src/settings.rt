@@ -1,7 +1,8 @@
 ghost use Rattle.std.specs.Prelude.{◌≡◌, if◌then◌else◌, Some, None, OnOk};
 ghost use Rattle.plan_text.specs.Steps.{Refuses};
-ghost use Rattle.plan_reader.specs.Settings as spec;
-ghost use Rattle.plan_reader.specs.Settings.{setting_refusal, settings_of, with_setting};
+ghost use Rattle.plan_reader.specs.Settings.{settings_of};
+ghost use Rattle.plan_reader.specs.SettingValues as state;
+ghost use Rattle.plan_reader.specs.SettingValues.{value_refusal, with_setting};
 
 use crate::PlanRefusal;
 use hyper_model::{Line, Rule};
@@ -16,9 +17,9 @@ pub(crate) struct Settings {
     pub(crate) period: u32,
 }
 
-/// What records say of each setting.
+/// The value that records give each setting.
 #[derive(Clone, Copy, Debug)]
-pub(crate) struct Seen {
+pub(crate) struct Values {
     version: Option<u32>,
     line: Option<Line>,
     rule: Option<Rule>,
@@ -28,56 +29,56 @@ pub(crate) struct Seen {
 /// An hour, in seconds.
 const HOUR: u32 = 3600;
 
-/// The settings of the records: where none says it, calls do not wait, the records give the lists, and the period is an
-/// hour. A record for a setting that an earlier one has is refused, and a version that is neither 1 nor 2.
+/// The settings of the records: without a record for one, calls do not wait, the records give the lists, and the period
+/// is an hour. A record for a setting that an earlier one has is refused, and a version that is neither 1 nor 2.
 pub(crate) fn read_settings(records: &[Record]) -> Result<Settings, PlanRefusal>
     ensures { result ≡ settings_of records.now }
 {
-    let mut seen = Seen {
+    let mut values = Values {
         version: None,
         line: None,
         rule: None,
         period: None,
     };
     for item in records {
-        take_setting(&mut seen, item)?;
+        take_setting(&mut values, item)?;
     }
-    Ok(settings_seen(&seen))
+    Ok(settings_of_values(&values))
 }
 
-fn settings_seen(seen: &Seen) -> Settings
-    ensures { result ≡ spec.settings_seen seen.now }
+fn settings_of_values(values: &Values) -> Settings
+    ensures { result ≡ state.settings_of_values values.now }
 {
     Settings {
-        line: seen.line.unwrap_or(Line::Zero),
-        rule: seen.rule.unwrap_or(Rule::Given),
-        period: seen.period.unwrap_or(HOUR),
+        line: values.line.unwrap_or(Line::Zero),
+        rule: values.rule.unwrap_or(Rule::Given),
+        period: values.period.unwrap_or(HOUR),
     }
 }
 
-fn take_setting(seen: &mut Seen, item: &Record) -> Result<(), PlanRefusal>
-    ensures refusal { Refuses result (setting_refusal seen.old item.now) }
-    ensures taken { OnOk result (seen.new ≡ with_setting seen.old item.now) }
+fn take_setting(values: &mut Values, item: &Record) -> Result<(), PlanRefusal>
+    ensures refusal { Refuses result (value_refusal values.old item.now) }
+    ensures taken { OnOk result (values.new ≡ with_setting values.old item.now) }
 {
     match item {
         Record::Version { at, number } => {
-            check_new(seen.version.is_some(), *at)?;
+            check_new(values.version.is_some(), *at)?;
             if *number != 1 && *number != 2 {
                 return Err(PlanRefusal::Version(u64::from(*at)));
             }
-            seen.version = Some(*number);
+            values.version = Some(*number);
         }
         Record::LineIs { at, line } => {
-            check_new(seen.line.is_some(), *at)?;
-            seen.line = Some(*line);
+            check_new(values.line.is_some(), *at)?;
+            values.line = Some(*line);
         }
         Record::RuleIs { at, rule } => {
-            check_new(seen.rule.is_some(), *at)?;
-            seen.rule = Some(*rule);
+            check_new(values.rule.is_some(), *at)?;
+            values.rule = Some(*rule);
         }
         Record::Period { at, seconds } => {
-            check_new(seen.period.is_some(), *at)?;
-            seen.period = Some(*seconds);
+            check_new(values.period.is_some(), *at)?;
+            values.period = Some(*seconds);
         }
         Record::UnitIs { .. }
         | Record::AtomIs { .. }
@@ -89,10 +90,10 @@ fn take_setting(seen: &mut Seen, item: &Record) -> Result<(), PlanRefusal>
     Ok(())
 }
 
-fn check_new(is_seen: bool, at: u32) -> Result<(), PlanRefusal>
-    ensures { Refuses result (if is_seen then Some (PlanRefusal.SettingTwice at) else None) }
+fn check_new(is_given: bool, at: u32) -> Result<(), PlanRefusal>
+    ensures { Refuses result (if is_given then Some (PlanRefusal.SettingTwice at) else None) }
 {
-    if is_seen {
+    if is_given {
         return Err(PlanRefusal::SettingTwice(u64::from(at)));
     }
     Ok(())

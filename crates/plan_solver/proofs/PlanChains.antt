@@ -1,4 +1,4 @@
--- The chain of a plan's words, told by the plan alone: its entries are sound, and its weights enclose every solution.
+-- The chain of a plan's words, said by the plan only: its entries are sound, and its weights enclose every solution.
 use Rattle.std.proofs.Common.{◌≡◌, ℕ, ◌+◌, ◌-◌, ◌*◌, ◌^◌, ◌<◌, ◌≤◌, List, [], ◌∷◌, ◌++◌, length, map, All, refl, sym, ap, ap₂, subst, ◌∙◌, arith, length-append}
 use Rattle.std.proofs.lemmas.List.{append-nil, get_or-map, length-map}
 use Rattle.std.proofs.lemmas.Nat.{mul-le, pow_pos}
@@ -19,7 +19,7 @@ use Rattle.busy_words.specs.Order.{WordOrder}
 use Rattle.busy_words.specs.WeightParts.{EnclosesSolution, IsOrderOf, places, places_on, tail_masses}
 use Rattle.busy_words.proofs.Ordering.{last_word}
 use Rattle.rate_matrix.specs.Bands.{BandedRates, cap, entry}
-use Rattle.rate_matrix.specs.Elimination.{AreSoundEntries, HoldsAll, SameEntries, left_after}
+use Rattle.rate_matrix.specs.Elimination.{AreSoundEntries, HoldsAll, SameEntries, entries_left_after}
 use Rattle.rate_matrix.specs.Weights.{AreWeightsOf}
 use Rattle.rate_matrix.specs.WordChains.{by_rank, word_rates, word_top}
 use Rattle.rate_matrix.proofs.ExactMatrix.{scale_wide}
@@ -82,7 +82,7 @@ module _ (p : PlanParts) (a : IsAccepted p) (order : WordOrder) (o : IsOrderOf p
       weights_in_range (words p) (word_scale p) (words p) (word_caps p order) (last_entries p order) items some_scale sound
       (omega arith) are
 
-  -- one weight for each word, and one more where calls wait
+  -- one weight for each word, and one more if calls wait
   pub one_each : (items : List Ends) → AreWeightsOn p.line p order items → length items ≡ places p
   one_each items = on_line p.line
     where
@@ -152,14 +152,14 @@ module _ (p : PlanParts) (s : SolverParts) (is : IsSolverOf p s) (m : BandedRate
   unfolding word_caps
   capped i l = ap₂ (λ c f. c * f) is.rates.scale (is.rates.outflows i l)
 
-  left_is : SameEntries (words p) (left_after (entry s.matrix) (cap s.matrix) (words p) (words p - 1)) (last_entries p s.order)
+  left_is : SameEntries (words p) (entries_left_after (entry s.matrix) (cap s.matrix) (words p) (words p - 1)) (last_entries p s.order)
   left_is =
       is_determined (words p) (entry s.matrix) (first_entries p s.order) (cap s.matrix) (word_caps p s.order) (words p - 1)
       (omega (arith, pow_pos (units p))) begun capped
 
   module _ (size : m.size ≡ s.matrix.size)
       (left : (i j : ℕ) → i < s.matrix.size → j < s.matrix.size
-      → entry m i j ≡ left_after (entry s.matrix) (cap s.matrix) s.matrix.size (s.matrix.size - 1) i j) where
+      → entry m i j ≡ entries_left_after (entry s.matrix) (cap s.matrix) s.matrix.size (s.matrix.size - 1) i j) where
     same_size : m.size ≡ words p
     same_size = size ∙ is.rates.size
 
@@ -167,7 +167,7 @@ module _ (p : PlanParts) (s : SolverParts) (is : IsSolverOf p s) (m : BandedRate
     ended = record {
       same = λ i j l k ne.
           left i j (omega (arith, is.rates.size)) (omega (arith, is.rates.size))
-          ∙ ap (λ n. left_after (entry s.matrix) (cap s.matrix) n (n - 1) i j) is.rates.size
+          ∙ ap (λ n. entries_left_after (entry s.matrix) (cap s.matrix) n (n - 1) i j) is.rates.size
           ∙ left_is.same i j l k ne;
     }
 

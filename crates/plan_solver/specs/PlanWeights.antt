@@ -1,4 +1,4 @@
--- The weights of a plan: those of the chain of its words, and where calls wait one more for all states in which one
+-- The weights of a plan: those of the chain of its words, and if calls wait one more for all states in which one
 -- does.
 use Rattle.std.specs.Prelude.{ℕ, ◌-◌, ◌*◌, ◌/◌, ◌^◌, List}
 use Rattle.fixed_interval.specs.Ends.{Ends, exact_ends}
@@ -10,7 +10,7 @@ use Rattle.hyper_model.specs.Tables.{between_states}
 use Rattle.hyper_model.specs.Words.{words}
 use Rattle.busy_words.specs.Order.{WordOrder}
 use Rattle.busy_words.specs.WeightParts.{IsOrderOf}
-use Rattle.rate_matrix.specs.Elimination.{Entries, left_after, outflow_of}
+use Rattle.rate_matrix.specs.Elimination.{Entries, entries_left_after, outflow_of}
 use Rattle.rate_matrix.specs.Weights.{AreWeightsOf}
 use Rattle.rate_matrix.specs.WordChains.{word_rates, word_top}
 use Rattle.queue_tail.specs.Tail.{GainsTail}
@@ -29,13 +29,13 @@ word_caps p order i = word_scale p * outflow_of (words p) (word_rates p order) i
 
 -- after all words but the first were eliminated, the last one first
 abbrev pub last_entries : PlanParts → WordOrder → Entries
-last_entries p order = left_after (first_entries p order) (word_caps p order) (words p) (words p - 1)
+last_entries p order = entries_left_after (first_entries p order) (word_caps p order) (words p) (words p - 1)
 
 -- one weight for each word
 abbrev pub AreWordWeights : PlanParts → WordOrder → List Ends → Type 0
 AreWordWeights p order items = AreWeightsOf (last_entries p order) (words p) items
 
--- and behind them, where calls wait, that of the tail
+-- and after them, if calls wait, that of the tail
 abbrev pub AreWeightsOn : Line → PlanParts → WordOrder → List Ends → Type 0
 AreWeightsOn line.Zero p order items = AreWordWeights p order items
 AreWeightsOn line.Infinite p order items =

@@ -1,11 +1,11 @@
 -- What contracts see of a solver: the chain of a plan's words, before any of it is eliminated.
-use Rattle.std.specs.Prelude.{◌≡◌, ℕ, ◌+◌, ◌<◌, ◌≤◌, true, List, []}
+use Rattle.std.specs.Prelude.{◌≡◌, ℕ, ◌+◌, ◌≤◌, true, List, []}
 use Rattle.fixed_interval.specs.Ends.{Ends}
 use Rattle.fixed_interval.specs.WeightList.{WeightList}
 use Rattle.hyper_model.specs.declared.kinds.Line.{Line}
 use Rattle.hyper_model.specs.declared.kinds.Line.TheVariants as line
 use Rattle.hyper_model.specs.declared.parts.PlanParts.{PlanParts}
-use Rattle.hyper_model.specs.Plans.{all_calls, all_service, IsAccepted}
+use Rattle.hyper_model.specs.Plans.{all_calls, all_service, IsAccepted, IsStable}
 use Rattle.hyper_model.specs.Words.{words}
 use Rattle.busy_words.specs.Order.{WordOrder}
 use Rattle.busy_words.specs.WeightParts.{IsOrderOf}
@@ -31,11 +31,6 @@ pub record IsSolverOf (p : PlanParts) (s : SolverParts) : Type 0 where
   pub calls : s.calls ≡ all_calls p
   pub service : s.service ≡ all_service p
 
--- where calls wait, fewer come than all units can serve
-abbrev pub IsStableOn : Line → ℕ → ℕ → Type 0
-IsStableOn line.Zero calls service = Prim.Unit {0}
-IsStableOn line.Infinite calls service = calls < service
-
 -- no state is eliminated yet, and there is room for all parts and weights
 pub record IsReady (s : SolverParts) (row : ℕ) (weights : WeightList) : Type 0 where
   pub packed : s.matrix.packed ≡ true
@@ -43,9 +38,9 @@ pub record IsReady (s : SolverParts) (row : ℕ) (weights : WeightList) : Type 0
   pub parts : s.matrix.size ≤ row
   pub empty : weights.items ≡ []
   pub room : s.matrix.size + 1 ≤ weights.spare
-  pub stable : IsStableOn s.line s.calls s.service
+  pub stable : IsStable s.line s.calls s.service
 
--- the weights of the states, from the entries that are left, and where calls wait that of the tail
+-- the weights of the states, from the entries that are left, and if calls wait that of the tail
 abbrev pub AreFilled : Line → ℕ → ℕ → BandedRates → List Ends → Type 0
 AreFilled line.Zero calls service m items = AreWeightsOf (entry m) m.size items
 AreFilled line.Infinite calls service m items =

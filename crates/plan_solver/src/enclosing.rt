@@ -1,12 +1,12 @@
-ghost use Rattle.std.specs.Prelude.{◌≡◌, ◌≤◌, All, IfOk, List};
-ghost use Rattle.hyper_model.specs.declared.kinds.Enclosed.{Enclosed};
-ghost use Rattle.hyper_model.specs.Measures.{IsInRange};
+ghost use Rattle.std.specs.Prelude.{◌≤◌, All, IfOk};
+ghost use Rattle.hyper_model.specs.Measures.{ContainsSolutions, IsInRange};
 ghost use Rattle.hyper_model.specs.Solutions.{HasSolution};
-ghost use Rattle.plan_solver.specs.Enclosures.{ContainsSolutions, IsEnclosureOf};
+ghost use Rattle.plan_solver.specs.Enclosures.{IsEnclosureOf};
+ghost use Rattle.plan_solver.specs.PlanWeights.{ArePlanWeights};
 
-use crate::Solver;
 use crate::measuring::measures;
-use hyper_model::{Enclosures, Plan, law_existence};
+use crate::{Solver, Weighed};
+use hyper_model::{Enclosures, Plan, law_accepted, law_existence};
 use rate_matrix::Gate;
 use std::alloc::{AllocError, Global};
 use std::thread::Threads;
@@ -15,22 +15,21 @@ use std::thread::Threads;
 ///
 /// The value is the one that Larson's formulas give for any solution of the plan's balance equations, and there is
 /// one (Larson 1974; Larson and Odoni, Urban Operations Research, chapter 5). The two measures of a district from
-/// which no call comes have no value, and no ends. There is an error for want of memory alone.
+/// which no call comes have no value, and no ends. By [`law_enclosure`](crate::law_enclosure) there is one such list.
+/// There is an error only for lack of memory.
 pub fn enclose(alloc: Global, plan: &Plan) -> Result<Enclosures, AllocError>
     ensures solvable { HasSolution plan.now }
     ensures exact { IfOk result (λ found. IsEnclosureOf plan.now found.items) }
-    ensures alone { IfOk result (λ found. (others : List Enclosed) → IsEnclosureOf plan.now others → others ≡ found.items) }
     ensures contains { IfOk result (λ found. ContainsSolutions plan.now found.items) }
-    ensures in_range { IfOk result (λ found. All (λ e. IsInRange plan.now e.measure) found.items) }
 {
     law_existence(plan);
     let weighed = Solver::reserved(alloc, plan)?.weigh();
-    measures(alloc, plan, &weighed)
+    enclosures(alloc, plan, &weighed)
 }
 
 /// Does what [`enclose`] does, the rows of each elimination by 1 to 16 workers.
 ///
-/// Each entry that an elimination changes is computed by the gate, which is told the place of the plan among others.
+/// Each entry that an elimination changes is computed by the gate, which is given the place of the plan among others.
 /// Neither the number of workers nor the gate has a part in what is found.
 pub fn enclose_with<R: Threads + Sync, G: Gate + Sync>(
     rt: &R,
@@ -44,22 +43,21 @@ pub fn enclose_with<R: Threads + Sync, G: Gate + Sync>(
     requires most { workers ≤ 16 }
     ensures solvable { HasSolution plan.now }
     ensures exact { IfOk result (λ found. IsEnclosureOf plan.now found.items) }
-    ensures alone { IfOk result (λ found. (others : List Enclosed) → IsEnclosureOf plan.now others → others ≡ found.items) }
     ensures contains { IfOk result (λ found. ContainsSolutions plan.now found.items) }
     ensures in_range { IfOk result (λ found. All (λ e. IsInRange plan.now e.measure) found.items) }
 {
     law_existence(plan);
     let weighed = Solver::reserved(alloc, plan)?.weigh_with(rt, workers, gate, place);
-    measures(alloc, plan, &weighed)
+    enclosures(alloc, plan, &weighed)
 }
 
-/// The measures with the ends of the method are one list, and each contains its value for every solution.
-///
-/// It answers nothing: its contract is the theorem.
-pub fn law_enclosure(plan: &Plan)
-    ensures alone { (found others : List Enclosed) → IsEnclosureOf plan.now found → IsEnclosureOf plan.now others
-        → others ≡ found }
-    ensures contains { (found : List Enclosed) → IsEnclosureOf plan.now found → ContainsSolutions plan.now found }
+/// The measures with the ends that a plan's weights give.
+fn enclosures(alloc: Global, plan: &Plan, weighed: &Weighed) -> Result<Enclosures, AllocError>
+    requires { ArePlanWeights plan.now weighed.now.order weighed.now.weights.items }
+    ensures exact { IfOk result (λ found. IsEnclosureOf plan.now found.items) }
+    ensures contains { IfOk result (λ found. ContainsSolutions plan.now found.items) }
+    ensures in_range { IfOk result (λ found. All (λ e. IsInRange plan.now e.measure) found.items) }
 {
-    let _calls = plan.calls();
+    law_accepted(plan);
+    measures(alloc, plan, weighed)
 }

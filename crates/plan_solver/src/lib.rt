@@ -2,10 +2,12 @@
 #![tactic(auto)]
 
 mod enclosing;
+mod laws;
 mod measuring;
 mod sharing;
 mod solver;
 mod weighing;
 
-pub use enclosing::{enclose, enclose_with, law_enclosure};
+pub use enclosing::{enclose, enclose_with};
+pub use laws::{law_enclosure, law_weights};
 pub use solver::{Solver, Weighed};

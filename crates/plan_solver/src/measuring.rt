@@ -1,21 +1,20 @@
 ghost use Rattle.std.specs.Prelude.{◌≡◌, ◌+◌, ◌≤◌, ◌++◌, All, IfOk, length};
-ghost use Rattle.fixed_interval.specs.WeightList.{ends_at};
+ghost use Rattle.hyper_model.specs.declared.TheConstants.{MOST_DISPATCHES, MOST_TIMES};
 ghost use Rattle.hyper_model.specs.Enclosures.{IsOrderedEnclosed};
 ghost use Rattle.busy_words.specs.WeightParts.{IsOrderOf, places};
+ghost use Rattle.workload_measures.specs.LoadEnds.{line_measures};
 ghost use Rattle.dispatch_fractions.specs.PartLists.{AreSizedFor};
 ghost use Rattle.dispatch_fractions.specs.Fractions.{fractions_of, interdistrict_of};
-ghost use Rattle.plan_solver.specs.Enclosures.{line_measures, measures_of, travel_times_of};
+ghost use Rattle.travel_measures.specs.TravelEnds.{travel_times_of};
+ghost use Rattle.plan_solver.specs.Enclosures.{measures_of};
 
 use crate::Weighed;
 use dispatch_fractions::{Parts, fractions, interdistrict};
 use fixed_interval::Weights;
-use hyper_model::{Enclosed, Enclosures, Line, Plan};
+use hyper_model::{Enclosed, Enclosures, Line, MOST_MEASURES, Plan, law_accepted};
 use std::alloc::{AllocError, Global};
 use travel_measures::{atom_times, district_times, region_time, unit_times};
 use workload_measures::{loss_or_delay, mean_wait, queue_length, workloads};
-
-/// More than a plan of 12 units and 200 atoms has.
-const MOST_MEASURES: usize = 4000;
 
 /// All measures of a plan, in the order in which a report prints them.
 pub(crate) fn measures(
@@ -27,7 +26,7 @@ pub(crate) fn measures(
     requires one_each { length weighed.now.weights.items ≡ places plan.now }
     ensures { IfOk result (λ found. found.items ≡ measures_of plan.now weighed.now.order weighed.now.weights.items) }
 {
-    let _units = plan.units();
+    law_accepted(plan);
     let mut found = Enclosures::reserved(alloc, MOST_MEASURES)?;
     push_line(&mut found, plan, &weighed.weights);
     push_all(
@@ -62,13 +61,12 @@ fn push_dispatches(
     parts: &Parts,
 ) -> Result<(), AllocError>
     requires sized { AreSizedFor plan.now parts.now }
-    requires room { 2425 ≤ found.old.spare }
+    requires room { MOST_DISPATCHES ≤ found.old.spare }
     ensures items { IfOk result (λ _. found.new.items
         ≡ found.old.items ++ fractions_of plan.now parts.now ++ interdistrict_of plan.now parts.now) }
-    ensures room { IfOk result (λ _. found.old.spare ≤ found.new.spare + 2425) }
+    ensures room { IfOk result (λ _. found.old.spare ≤ found.new.spare + MOST_DISPATCHES) }
 {
-    let _units = plan.units();
-    let _atoms = plan.atoms();
+    law_accepted(plan);
     push_all(found, &fractions(alloc, plan, parts)?);
     push_all(found, &interdistrict(alloc, plan, parts)?);
     Ok(())
@@ -82,11 +80,10 @@ fn push_travel(
     parts: &Parts,
 ) -> Result<(), AllocError>
     requires sized { AreSizedFor plan.now parts.now }
-    requires room { 225 ≤ found.old.spare }
+    requires room { MOST_TIMES ≤ found.old.spare }
     ensures { IfOk result (λ _. found.new.items ≡ found.old.items ++ travel_times_of plan.now parts.now) }
 {
-    let _units = plan.units();
-    let _atoms = plan.atoms();
+    law_accepted(plan);
     found.push(region_time(plan, parts));
     push_all(found, &atom_times(alloc, plan, parts)?);
     push_all(found, &unit_times(alloc, plan, parts)?);

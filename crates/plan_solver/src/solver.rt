@@ -34,7 +34,7 @@ impl Model for Solver {
     ghost invariant = { λ a. IsReady (record { order = a.order; matrix = a.matrix; line = a.line; calls = a.calls; service = a.service }) (length a.row) a.weights };
 }
 
-/// The weights of a plan, in the order of its words. On the infinite line one more stands behind them, for all
+/// The weights of a plan, in the order of its words. On the infinite line one more stands after them, for all
 /// states in which a call waits.
 #[derive(Debug, Drop)]
 pub struct Weighed {
@@ -43,10 +43,8 @@ pub struct Weighed {
 }
 
 impl Solver {
-    ghost use Rattle.std.specs.Prelude.{◌≡◌, ◌≤◌, ℕ, IfOk, List};
+    ghost use Rattle.std.specs.Prelude.{◌≤◌, IfOk};
     ghost use Rattle.hyper_model.specs.declared.parts.PlanParts.{PlanParts};
-    ghost use Rattle.hyper_model.specs.Solutions.{IsSolution};
-    ghost use Rattle.busy_words.specs.WeightParts.{EnclosesSolution};
     ghost use Rattle.plan_solver.specs.PlanWeights.{ArePlanWeights};
     ghost use Rattle.plan_solver.specs.Solvers.{IsSolverOf};
 
@@ -70,11 +68,10 @@ impl Solver {
 
     /// Eliminates all words but the first, and weighs them one after the other (Grassmann, Taksar and Heyman 1985).
     ///
-    /// The weights enclose every solution of the plan, up to one common factor. No memory is taken.
+    /// By [`law_weights`](crate::law_weights) the weights enclose every solution of the plan, up to one common factor.
+    /// No memory is taken.
     pub fn weigh(self) -> Weighed
         ensures weights { (p : PlanParts) → IsSolverOf p self → ArePlanWeights p result.order result.weights.items }
-        ensures encloses { (p : PlanParts) → IsSolverOf p self → (xs : List ℕ) (z : ℕ) → IsSolution p xs z
-            → EnclosesSolution p result.order result.weights.items xs z }
     {
         let Solver {
             order,
@@ -92,7 +89,7 @@ impl Solver {
 
     /// Does what [`Solver::weigh`] does, the rows of each elimination by 1 to 16 workers.
     ///
-    /// Each entry that changes is computed by the gate, which is told the place of the plan among others. Neither
+    /// Each entry that changes is computed by the gate, which is given the place of the plan among others. Neither
     /// the number of workers nor the gate has a part in the weights.
     pub fn weigh_with<R: Threads + Sync, G: Gate + Sync>(
         self,
@@ -104,8 +101,6 @@ impl Solver {
         requires some { 1 ≤ workers }
         requires most { workers ≤ 16 }
         ensures weights { (p : PlanParts) → IsSolverOf p self → ArePlanWeights p result.order result.weights.items }
-        ensures encloses { (p : PlanParts) → IsSolverOf p self → (xs : List ℕ) (z : ℕ) → IsSolution p xs z
-            → EnclosesSolution p result.order result.weights.items xs z }
     {
         let Solver {
             order,

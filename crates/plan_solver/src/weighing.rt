@@ -1,5 +1,6 @@
 ghost use Rattle.std.specs.Prelude.{◌≡◌, ◌+◌, ◌≤◌, []};
-ghost use Rattle.plan_solver.specs.Solvers.{IsStableOn, AreFilled};
+ghost use Rattle.hyper_model.specs.Plans.{IsStable};
+ghost use Rattle.plan_solver.specs.Solvers.{AreFilled};
 
 use back_solve::solve_back;
 use fixed_interval::Weights;
@@ -12,7 +13,7 @@ pub(crate) fn fill(weights: &mut Weights, matrix: &RateMatrix, line: Line, calls
     requires reduced { matrix.now.alive ≡ 1 }
     requires empty { weights.old.items ≡ [] }
     requires room { matrix.now.size + 1 ≤ weights.old.spare }
-    requires stable { IsStableOn line calls service }
+    requires stable { IsStable line calls service }
     ensures { AreFilled line calls service matrix.now weights.new.items }
 {
     let _size = matrix.size();

@@ -1,4 +1,4 @@
--- Reading goes on behind what was read.
+-- Reading goes on after what was read.
 use Rattle.std.proofs.Common.{◌≡◌, ◌⊎◌, ℕ, suc, ◌+◌, ◌-◌, ◌<◌, ◌≤◌, List, [], ◌∷◌, ◌++◌, length, refl, inl, inr, arith, append_assoc}
 use Rattle.std.specs.Prelude.{Result, Ok, Err}
 use Rattle.std.proofs.lemmas.List.{append-nil}
@@ -8,7 +8,7 @@ use Rattle.plan_text.specs.Rows.{Fields}
 use Rattle.plan_text.specs.Steps.{◌>>=◌}
 use Rattle.plan_text.specs.declared.refusal.TextRefusal.{TextRefusal}
 
--- what is read, behind what was read before
+-- what is read, after what was read before
 abbrev pub with_front : {A E : Type 0} → List A → Result (List A) E → Result (List A) E
 with_front front read = read >>= λ xs. Ok (front ++ xs)
 
@@ -29,19 +29,19 @@ pub names_at-more : (at : ℕ) (row : Fields) (place : ℕ) (front : List (List 
     → with_front front (names_at (length row - place) at row place)
     ≡ with_front (front ++ name ∷ []) (names_at (length row - (place + 1)) at row (place + 1))
 unfolding names_at
-names_at-more at row place front name lt said =
+names_at-more at row place front name lt read =
     let one : length row - place ≡ suc (length row - (place + 1)) = omega arith in
-    rw (one, said) (regroup front (name ∷ []) (names_at (length row - (place + 1)) at row (place + 1)))
+    rw (one, read) (regroup front (name ∷ []) (names_at (length row - (place + 1)) at row (place + 1)))
 
 -- a field that is no name
 pub names_at-refused : (at : ℕ) (row : Fields) (place : ℕ) (front : List (List ℕ)) (e : TextRefusal) → place < length row
     → name_at at row place ≡ Err e → with_front front (names_at (length row - place) at row place) ≡ Err e
 unfolding names_at
-names_at-refused at row place front e lt said =
+names_at-refused at row place front e lt read =
     let one : length row - place ≡ suc (length row - (place + 1)) = omega arith in
-    rw (one, said) refl
+    rw (one, read) refl
 
--- behind the last field
+-- after the last field
 pub names_at-done : (at : ℕ) (row : Fields) (place : ℕ) (front : List (List ℕ)) → length row ≤ place
     → with_front front (names_at (length row - place) at row place) ≡ Ok front
 unfolding names_at

@@ -11,18 +11,20 @@ use Rattle.std.proofs.lemmas.List.Kept.{AllPairs-cons}
 use Rattle.std.proofs.lemmas.List.{length-append}
 use Rattle.hyper_model.specs.Name.{is_name}
 use Rattle.hyper_model.specs.Plans.{IsBetween}
-use Rattle.plan_text.specs.Fields.{field, is_number, is_within, line_at, name_at, name_in, number_at, number_in, rule_at, said}
+use Rattle.plan_text.specs.Fields.{field, is_number, is_within, line_at, name_at, name_in, number_at, number_in, rule_at, field_value}
 use Rattle.plan_text.specs.Form.{AreNames, HasValues, IsInForm, IsName, at_of}
 use Rattle.plan_text.specs.Kinds.{has_field_count, is_passed_over, is_version_two, kind_of}
-use Rattle.plan_text.specs.Reading.{atom_of, group_of, line_of, located_of, names_at, period_of, prefer_of, reading_of, record_of, record_of_kind, records_after, row_reading, rule_of, travel_of, unit_of, version_of}
-use Rattle.plan_text.specs.Rows.{Fields}
+use Rattle.plan_text.specs.Reading.{atom_of, group_of, line_of, located_of, names_at, period_of, prefer_of, reading_of, record_of, record_of_kind, records_after, records_of, row_reading, rule_of, travel_of, unit_of, version_of}
+use Rattle.plan_text.specs.Rows.{Fields, rows_of}
 use Rattle.plan_text.specs.Steps.{◌>>=◌}
+use Rattle.plan_text.specs.declared.TheConstants.{MOST_RECORDS, MOST_TEXT_BYTES}
+use Rattle.plan_text.specs.declared.kind.TheConstants.{MOST_FIELDS}
 use Rattle.plan_text.specs.declared.kind.Kind.{Kind}
 use Rattle.plan_text.specs.declared.kind.Kind.TheVariants as kind
 use Rattle.plan_text.specs.declared.record.Record.{Record}
 use Rattle.plan_text.specs.declared.record.Record.TheVariants as rec
 use Rattle.plan_text.specs.declared.refusal.TextRefusal.{TextRefusal}
-use Rattle.plan_text.specs.declared.refusal.TextRefusal.TheVariants.{BadName, BadNumber, FieldCount, NotUtf8, TooManyRecords}
+use Rattle.plan_text.specs.declared.refusal.TextRefusal.TheVariants.{BadName, BadNumber, FieldCount, NotUtf8, TooLong, TooManyRecords}
 
 -- a step that gave something went on from what the step before it gave
 pub bind-ok : {A B E : Type 0} (given : Result A E) (next : A → Result B E) (y : B) → (given >>= next) ≡ Ok y
@@ -31,9 +33,9 @@ bind-ok (Ok x) next y h = (x, refl, h)
 bind-ok (Err e) next y h = absurd (cc)
 
 -- what a field says is what its bytes are as this sort of thing
-pub said-ok : {A : Type 0} (sort : List ℕ → Option A) (wrong : ℕ → ℕ → TextRefusal) (at : ℕ) (row : Fields) (place : ℕ) (x : A)
-    → said sort wrong at row place ≡ Ok x → sort (field row place) ≡ Some x
-said-ok {A} sort wrong at row place x h = by (is_utf8 (field row place)) (sort (field row place)) h
+pub field_value-ok : {A : Type 0} (sort : List ℕ → Option A) (wrong : ℕ → ℕ → TextRefusal) (at : ℕ) (row : Fields) (place : ℕ) (x : A)
+    → field_value sort wrong at row place ≡ Ok x → sort (field row place) ≡ Some x
+field_value-ok {A} sort wrong at row place x h = by (is_utf8 (field row place)) (sort (field row place)) h
   where
     by : (text : Bool) (o : Option A) → (if text then ok_or o (wrong at (place + 1)) else Err (NotUtf8 at)) ≡ Ok x → o ≡ Some x
     by true (Some y) q = let e : y ≡ x = cc in ap Some e
@@ -52,7 +54,7 @@ pub number_at-between : (least most at : ℕ) (row : Fields) (place n : ℕ) →
     → IsBetween least most n
 number_at-between least most at row place n h =
     by (is_number (field row place) && is_within least most (digits_value 10 (field row place))) refl
-    (said-ok (number_in least most) BadNumber at row place n h)
+    (field_value-ok (number_in least most) BadNumber at row place n h)
   where
     by : (test : Bool) → (is_number (field row place) && is_within least most (digits_value 10 (field row place))) ≡ test
         → (if test then Some (digits_value 10 (field row place)) else None) ≡ Some n → IsBetween least most n
@@ -64,7 +66,7 @@ number_at-between least most at row place n h =
 
 -- a name that a field says is a name
 pub name_at-is : (at : ℕ) (row : Fields) (place : ℕ) (name : List ℕ) → name_at at row place ≡ Ok name → IsName name
-name_at-is at row place name h = by (is_name (field row place)) refl (said-ok name_in BadName at row place name h)
+name_at-is at row place name h = by (is_name (field row place)) refl (field_value-ok name_in BadName at row place name h)
   where
     by : (test : Bool) → is_name (field row place) ≡ test → (if test then Some (field row place) else None) ≡ Some name → IsName name
     by true passed q = let is : field row place ≡ name = cc in rw is at passed
@@ -78,11 +80,11 @@ names_at-are zero at row place names h =
     let is : [] ≡ names = cc in
     rw (sym is) (λ k d lt. absurd (omega arith), refl)
 names_at-are (suc count) at row place names h =
-    let (name, said, rest) = bind-ok (name_at at row place) _ names h in
+    let (name, named, rest) = bind-ok (name_at at row place) _ names h in
     let (others, more, last) = bind-ok (names_at count at row (place + 1)) _ names rest in
     let is : name ∷ others ≡ names = cc in
     let so = names_at-are count at row (place + 1) others more in
-    rw (sym is) (All-cons IsName name others (name_at-is at row place name said) so.0, omega (arith, so.1))
+    rw (sym is) (All-cons IsName name others (name_at-is at row place name named) so.0, omega (arith, so.1))
 
 -- a record with its values in range, under the number that was asked for
 record Fits (at : ℕ) (r : Record) : Type 0 where
@@ -92,30 +94,30 @@ record Fits (at : ℕ) (r : Record) : Type 0 where
 version_of-fits : (at : ℕ) (row : Fields) (r : Record) → version_of at row ≡ Ok r → Fits at r
 unfolding version_of
 version_of-fits at row r h =
-    let (number, said, last) = bind-ok (number_at 0 999999999 at row 1) _ r h in
+    let (number, read, last) = bind-ok (number_at 0 999999999 at row 1) _ r h in
     let is : rec.Version at number ≡ r = cc in
-    rw (sym is) (record { values = (number_at-between 0 999999999 at row 1 number said).high; number = refl })
+    rw (sym is) (record { values = (number_at-between 0 999999999 at row 1 number read).high; number = refl })
 
 line_of-fits : (at : ℕ) (row : Fields) (r : Record) → line_of at row ≡ Ok r → Fits at r
 unfolding line_of
 line_of-fits at row r h =
-    let (line, said, last) = bind-ok (line_at at row 1) _ r h in
+    let (line, read, last) = bind-ok (line_at at row 1) _ r h in
     let is : rec.LineIs at line ≡ r = cc in
     rw (sym is) (record { values = tt; number = refl })
 
 rule_of-fits : (at : ℕ) (row : Fields) (r : Record) → rule_of at row ≡ Ok r → Fits at r
 unfolding rule_of
 rule_of-fits at row r h =
-    let (rule, said, last) = bind-ok (rule_at at row 1) _ r h in
+    let (rule, read, last) = bind-ok (rule_at at row 1) _ r h in
     let is : rec.RuleIs at rule ≡ r = cc in
     rw (sym is) (record { values = tt; number = refl })
 
 period_of-fits : (at : ℕ) (row : Fields) (r : Record) → period_of at row ≡ Ok r → Fits at r
 unfolding period_of
 period_of-fits at row r h =
-    let (seconds, said, last) = bind-ok (number_at 1 100000000 at row 1) _ r h in
+    let (seconds, read, last) = bind-ok (number_at 1 100000000 at row 1) _ r h in
     let is : rec.Period at seconds ≡ r = cc in
-    rw (sym is) (record { values = number_at-between 1 100000000 at row 1 seconds said; number = refl })
+    rw (sym is) (record { values = number_at-between 1 100000000 at row 1 seconds read; number = refl })
 
 unit_of-fits : (at : ℕ) (row : Fields) (r : Record) → unit_of at row ≡ Ok r → Fits at r
 unfolding unit_of
@@ -180,14 +182,14 @@ located_of-fits at row r h =
       number = refl;
     })
 
--- the units of a list: as many as there are fields behind the atom
-units-are : (at : ℕ) (row : Fields) (units : List (List ℕ)) → IsBetween 3 14 (length row)
+-- the units of a list: as many as there are fields after the atom
+units-are : (at : ℕ) (row : Fields) (units : List (List ℕ)) → IsBetween 3 MOST_FIELDS (length row)
     → names_at (length row - 2) at row 2 ≡ Ok units → AreNames units
 units-are at row units some h =
     let so = names_at-are (length row - 2) at row 2 units h in
     (so.0, record { low = omega (arith, so.1, some.low, some.high); high = omega (arith, so.1, some.low, some.high) })
 
-prefer_of-fits : (at : ℕ) (row : Fields) (r : Record) → IsBetween 3 14 (length row) → prefer_of at row ≡ Ok r → Fits at r
+prefer_of-fits : (at : ℕ) (row : Fields) (r : Record) → IsBetween 3 MOST_FIELDS (length row) → prefer_of at row ≡ Ok r → Fits at r
 unfolding prefer_of
 prefer_of-fits at row r some h =
     let (atom, named, rest) = bind-ok (name_at at row 1) _ r h in
@@ -195,7 +197,7 @@ prefer_of-fits at row r some h =
     let is : rec.Prefer at atom units ≡ r = cc in
     rw (sym is) (record { values = (name_at-is at row 1 atom named, units-are at row units some listed); number = refl })
 
-group_of-fits : (at : ℕ) (row : Fields) (r : Record) → IsBetween 3 14 (length row) → group_of at row ≡ Ok r → Fits at r
+group_of-fits : (at : ℕ) (row : Fields) (r : Record) → IsBetween 3 MOST_FIELDS (length row) → group_of at row ≡ Ok r → Fits at r
 unfolding group_of
 group_of-fits at row r some h =
     let (atom, named, rest) = bind-ok (name_at at row 1) _ r h in
@@ -213,8 +215,8 @@ record_of-fits kind.Unit at row r count h = unit_of-fits at row r h
 record_of-fits kind.Atom at row r count h = atom_of-fits at row r h
 record_of-fits kind.Travel at row r count h = travel_of-fits at row r h
 record_of-fits kind.Located at row r count h = located_of-fits at row r h
-record_of-fits kind.Prefer at row r count h = prefer_of-fits at row r (within-true 3 14 (length row) count) h
-record_of-fits kind.Group at row r count h = group_of-fits at row r (within-true 3 14 (length row) count) h
+record_of-fits kind.Prefer at row r count h = prefer_of-fits at row r (within-true 3 MOST_FIELDS (length row) count) h
+record_of-fits kind.Group at row r count h = group_of-fits at row r (within-true 3 MOST_FIELDS (length row) count) h
 
 record_of_kind-fits : (found : Option Kind) (at : ℕ) (row : Fields) (r : Record) → record_of_kind found at row ≡ Ok r → Fits at r
 record_of_kind-fits None at row r h = absurd (cc)
@@ -225,17 +227,17 @@ record_of_kind-fits (Some k) at row r h = by (has_field_count k (length row)) re
     by true count q = record_of-fits k at row r count q
     by false count q = absurd (cc)
 
--- a record with its values in range and a number from `least` to 50,000
+-- a record with its values in range and a number from `least` to the most records
 record IsFrom (least : ℕ) (r : Record) : Type 0 where
   values : HasValues r
   low : least ≤ at_of r
-  high : at_of r ≤ 50000
+  high : at_of r ≤ MOST_RECORDS
 
 -- what one row gives
 reading_of-fits : (number : ℕ) (groups : Bool) (row : Fields) (r : Record) → reading_of number groups row ≡ Ok (Some r)
-    → Fits number r × (number ≤ 50000)
+    → Fits number r × (number ≤ MOST_RECORDS)
 unfolding reading_of
-reading_of-fits number groups row r h = few (nat_lt 50000 number) refl h
+reading_of-fits number groups row r h = few (nat_lt MOST_RECORDS number) refl h
   where
     shown : (passed : Bool)
         → (if passed then Ok None else (record_of_kind (kind_of groups (field row 0)) number row >>= λ found. Ok (Some found))) ≡ Ok (Some r)
@@ -246,14 +248,14 @@ reading_of-fits number groups row r h = few (nat_lt 50000 number) refl h
         let is : found ≡ r = cc in
         rw (sym is) (record_of_kind-fits (kind_of groups (field row 0)) number row found read)
 
-    few : (many : Bool) → nat_lt 50000 number ≡ many
+    few : (many : Bool) → nat_lt MOST_RECORDS number ≡ many
         → (if many then Err (TooManyRecords number) else if is_passed_over row then Ok None
         else (record_of_kind (kind_of groups (field row 0)) number row >>= λ found. Ok (Some found))) ≡ Ok (Some r)
-        → Fits number r × (number ≤ 50000)
+        → Fits number r × (number ≤ MOST_RECORDS)
     few true many q = absurd (cc)
     few false many q = (shown (is_passed_over row) q, grind (arith, nat_tests))
 
--- what rows give behind others: numbers that rise from the number of the first row on
+-- what rows give after others: numbers that rise from the number of the first row on
 record IsInFormFrom (least : ℕ) (records : List Record) : Type 0 where
   each : All (IsFrom least) records
   rising : AllPairs (λ earlier later. at_of earlier < at_of later) records
@@ -305,3 +307,12 @@ records_after-form rows found h =
 pub reading_of-values : (number : ℕ) (groups : Bool) (row : Fields) (r : Record)
     → reading_of number groups row ≡ Ok (Some r) → HasValues r
 reading_of-values number groups row r h = (reading_of-fits number groups row r h).0.values
+
+-- and so are those of a text
+pub records_of-form : (bytes : List ℕ) (found : List Record) → records_of bytes ≡ Ok found → IsInForm found
+unfolding records_of
+records_of-form bytes found h = by (nat_lt MOST_TEXT_BYTES (length bytes)) h
+  where
+    by : (long : Bool) → (if long then Err (TooLong (length bytes)) else records_after [] (rows_of bytes)) ≡ Ok found → IsInForm found
+    by true q = absurd (cc)
+    by false q = records_after-form (rows_of bytes) found q

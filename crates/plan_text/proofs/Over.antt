@@ -1,4 +1,4 @@
--- A test over things that are taken one by one, each behind those before it.
+-- A test over things that are taken one by one, each after those before it.
 use Rattle.std.proofs.Common.{◌≡◌, ◌∙◌, ◌⊎◌, ℕ, zero, suc, ◌+◌, ◌<◌, ◌≤◌, List, [], ◌∷◌, ◌++◌, length, get_or, take, drop, refl, sym, inl, inr, arith, append_assoc}
 use Rattle.std.specs.Prelude.{All, Option, Some, None}
 use Rattle.std.specs.List.{filter_map}
@@ -57,7 +57,7 @@ pub option_or-none : {E : Type 0} (a b : Option E) → option_or a b ≡ None �
 option_or-none None b h = (refl, h)
 option_or-none (Some e) b h = absurd (cc)
 
--- where nothing is refused, each thing passes behind those before it
+-- where nothing is refused, each thing passes after those before it
 pub over-each : {A E : Type 0} (test : List A → A → Option E) (before xs : List A) → first_over test before xs ≡ None
     → (i : ℕ) (d : A) → i < length xs → test (before ++ take i xs) (get_or xs i d) ≡ None
 over-each test before [] h i d lt = absurd (omega arith)

@@ -1,4 +1,4 @@
--- Rows that are read one by one, each behind those before it.
+-- Rows that are read one by one, each after those before it.
 use Rattle.std.proofs.Common.{◌≡◌, ◌∙◌, ℕ, zero, suc, ◌+◌, ◌<◌, ◌≤◌, List, [], ◌∷◌, ◌++◌, length, take, drop, refl, ap, arith, append_assoc}
 use Rattle.std.specs.Prelude.{Bool, false, ◌||◌, Option, Result, Ok, Err, IsOk, slice_index_or}
 use Rattle.std.specs.List.{list_any}
@@ -21,7 +21,7 @@ drop_more rows place lt =
     let next : place + 1 ≡ suc place = omega arith in
     rw next (drop-cons rows place [] lt)
 
--- whether groups are a kind, behind one more row
+-- whether groups are a kind, after one more row
 pub any-more : (test : Fields → Bool) (rows : List Fields) (place : ℕ) → place < length rows
     → list_any test (take (place + 1) rows) ≡ (list_any test (take place rows) || test (slice_index_or rows place []))
 any-more test rows place lt =
@@ -45,8 +45,8 @@ pub records_after-more : (rows : List Fields) (place : ℕ) (front : List Record
     → with_front front (records_after (take place rows) (drop place rows))
     ≡ with_front (front ++ option_to_list read) (records_after (take (place + 1) rows) (drop (place + 1) rows))
 unfolding records_after
-records_after-more rows place front read lt said =
-    rw (drop_more rows place lt, said, take_more rows place [] lt)
+records_after-more rows place front read lt is_read =
+    rw (drop_more rows place lt, is_read, take_more rows place [] lt)
     (regroup front (option_to_list read) (records_after (take place rows ++ slice_index_or rows place [] ∷ []) (drop (place + 1) rows)))
 
 -- a row that is refused
@@ -54,15 +54,15 @@ pub records_after-refused : (rows : List Fields) (place : ℕ) (front : List Rec
     → row_reading (take place rows) (slice_index_or rows place []) ≡ Err e
     → with_front front (records_after (take place rows) (drop place rows)) ≡ Err e
 unfolding records_after
-records_after-refused rows place front e lt said = rw (drop_more rows place lt, said) refl
+records_after-refused rows place front e lt is_read = rw (drop_more rows place lt, is_read) refl
 
--- behind the last row
+-- after the last row
 pub records_after-done : (rows : List Fields) (place : ℕ) (front : List Record) → length rows ≤ place
     → with_front front (records_after (take place rows) (drop place rows)) ≡ Ok front
 unfolding records_after
 records_after-done rows place front ge = rw (drop_all place rows ge, append-nil front) refl
 
--- the first refusal of rows that stand behind others
+-- the first refusal of rows that stand after others
 record IsFirstBehind (before rows : List Fields) (place : ℕ) (e : TextRefusal) : Type 0 where
   within : place < length rows
   refused : row_reading (before ++ take place rows) (slice_index_or rows place []) ≡ Err e

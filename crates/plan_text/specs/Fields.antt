@@ -1,5 +1,5 @@
 -- What a field of a row says.
-use Rattle.std.specs.Prelude.{ℕ, ◌+◌, Bool, ◌&&◌, if◌then◌else◌, nat_lt, nat_le, List, [], length, slice_index_or, Option, Some, None, Result, Err, codes}
+use Rattle.std.specs.Prelude.{ℕ, ◌+◌, Bool, ◌&&◌, if◌then◌else◌, nat_lt, nat_le, List, [], ◌∷◌, find, length, slice_index_or, Option, Some, None, Result, Err, codes}
 use Rattle.std.specs.Char.{is_ascii_digit}
 use Rattle.std.specs.List.{list_all}
 use Rattle.std.specs.Option.{ok_or}
@@ -11,17 +11,18 @@ use Rattle.hyper_model.specs.declared.kinds.Line.TheVariants as line
 use Rattle.hyper_model.specs.declared.kinds.Rule.{Rule}
 use Rattle.hyper_model.specs.declared.kinds.Rule.TheVariants as rule
 use Rattle.plan_text.specs.Rows.{Fields}
+use Rattle.plan_text.specs.declared.field.TheConstants.{MOST_DIGITS}
 use Rattle.plan_text.specs.declared.refusal.TextRefusal.{TextRefusal}
 use Rattle.plan_text.specs.declared.refusal.TextRefusal.TheVariants.{NotUtf8, BadNumber, BadName}
 
 -- one to nine decimal digits
 abbrev pub is_number : List ℕ → Bool
-is_number bytes = nat_lt 0 (length bytes) && nat_le (length bytes) 9 && list_all is_ascii_digit bytes
+is_number bytes = nat_lt 0 (length bytes) && nat_le (length bytes) MOST_DIGITS && list_all is_ascii_digit bytes
 
 abbrev pub is_within : ℕ → ℕ → ℕ → Bool
 is_within least most value = nat_le least value && nat_le value most
 
--- the number that the bytes are, where it is in range
+-- the number that the bytes are, if it is in range
 abbrev pub number_in : ℕ → ℕ → List ℕ → Option ℕ
 number_in least most bytes =
     if is_number bytes && is_within least most (digits_value 10 bytes) then Some (digits_value 10 bytes) else None
@@ -31,38 +32,40 @@ abbrev pub name_in : List ℕ → Option (List ℕ)
 name_in bytes = if is_name bytes then Some bytes else None
 
 -- the line that the bytes name
+abbrev pub line_keyword : Line → List ℕ
+line_keyword line.Zero = codes "zero"
+line_keyword line.Infinite = codes "infinite"
+
 abbrev pub line_in : List ℕ → Option Line
-line_in bytes =
-    if bytes_eq bytes (codes "zero") then Some line.Zero
-    else if bytes_eq bytes (codes "infinite") then Some line.Infinite
-    else None
+line_in bytes = find (λ l. bytes_eq bytes (line_keyword l)) (line.Zero ∷ line.Infinite ∷ [])
 
 -- the rule that the bytes name
-abbrev pub rule_in : List ℕ → Option Rule
-rule_in bytes =
-    if bytes_eq bytes (codes "given") then Some rule.Given
-    else if bytes_eq bytes (codes "strict") then Some rule.Strict
-    else if bytes_eq bytes (codes "modified") then Some rule.Modified
-    else None
+abbrev pub rule_keyword : Rule → List ℕ
+rule_keyword rule.Given = codes "given"
+rule_keyword rule.Strict = codes "strict"
+rule_keyword rule.Modified = codes "modified"
 
--- the field at a place counted from 0, empty behind the last
+abbrev pub rule_in : List ℕ → Option Rule
+rule_in bytes = find (λ r. bytes_eq bytes (rule_keyword r)) (rule.Given ∷ rule.Strict ∷ rule.Modified ∷ [])
+
+-- the field at a place counted from 0, empty after the last
 abbrev pub field : Fields → ℕ → List ℕ
 field row place = slice_index_or row place []
 
 -- What a field of record `number` says: it has to be text, and to say something of this sort. Refusals count
 -- fields from 1.
-abbrev pub said : {A : Type 0} → (List ℕ → Option A) → (ℕ → ℕ → TextRefusal) → ℕ → Fields → ℕ → Result A TextRefusal
-said sort wrong number row place =
+abbrev pub field_value : {A : Type 0} → (List ℕ → Option A) → (ℕ → ℕ → TextRefusal) → ℕ → Fields → ℕ → Result A TextRefusal
+field_value sort wrong number row place =
     if is_utf8 (field row place) then ok_or (sort (field row place)) (wrong number (place + 1)) else Err (NotUtf8 number)
 
 abbrev pub number_at : ℕ → ℕ → ℕ → Fields → ℕ → Result ℕ TextRefusal
-number_at least most = said (number_in least most) BadNumber
+number_at least most = field_value (number_in least most) BadNumber
 
 abbrev pub name_at : ℕ → Fields → ℕ → Result (List ℕ) TextRefusal
-name_at = said name_in BadName
+name_at = field_value name_in BadName
 
 abbrev pub line_at : ℕ → Fields → ℕ → Result Line TextRefusal
-line_at = said line_in BadName
+line_at = field_value line_in BadName
 
 abbrev pub rule_at : ℕ → Fields → ℕ → Result Rule TextRefusal
-rule_at = said rule_in BadName
+rule_at = field_value rule_in BadName

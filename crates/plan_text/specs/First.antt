@@ -4,7 +4,7 @@ use Rattle.plan_text.specs.Reading.{row_reading}
 use Rattle.plan_text.specs.Rows.{Fields}
 use Rattle.plan_text.specs.declared.refusal.TextRefusal.{TextRefusal}
 
--- the row at this place is refused so, and none before it is refused, each judged behind the rows before it
+-- the row at this place is refused so, and none before it is refused, each judged after the rows before it
 pub record IsFirstRefused (rows : List Fields) (place : ℕ) (e : TextRefusal) : Type 0 where
   pub within : place < length rows
   pub refused : row_reading (take place rows) (slice_index_or rows place []) ≡ Err e

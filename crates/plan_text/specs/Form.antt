@@ -2,6 +2,8 @@
 use Rattle.std.specs.Prelude.{◌≡◌, ℕ, ◌<◌, ◌≤◌, true, List, length, All, AllPairs}
 use Rattle.hyper_model.specs.Name.{is_name}
 use Rattle.hyper_model.specs.Plans.{IsBetween}
+use Rattle.hyper_model.specs.declared.TheConstants.{MOST_UNITS}
+use Rattle.plan_text.specs.declared.TheConstants.{MOST_RECORDS}
 use Rattle.plan_text.specs.declared.record.Record.{Record}
 use Rattle.plan_text.specs.declared.record.Record.TheVariants as rec
 
@@ -21,9 +23,9 @@ at_of (rec.Group at atom units) = at
 abbrev pub IsName : List ℕ → Type 0
 IsName bytes = is_name bytes ≡ true
 
--- one to twelve names
+-- one name or more, as many as there can be units at most
 abbrev pub AreNames : List (List ℕ) → Type 0
-AreNames names = All IsName names × IsBetween 1 12 (length names)
+AreNames names = All IsName names × IsBetween 1 MOST_UNITS (length names)
 
 -- each value is in its range
 abbrev pub HasValues : Record → Type 0
@@ -42,5 +44,5 @@ HasValues (rec.Group at atom units) = IsName atom × AreNames units
 -- records with values in range, whose numbers rise
 pub record IsInForm (records : List Record) : Type 0 where
   pub values : All HasValues records
-  pub numbers : All (λ r. IsBetween 1 50000 (at_of r)) records
+  pub numbers : All (λ r. IsBetween 1 MOST_RECORDS (at_of r)) records
   pub rising : AllPairs (λ earlier later. at_of earlier < at_of later) records

@@ -1,10 +1,11 @@
 -- Which kind of record a row is.
-use Rattle.std.specs.Prelude.{ℕ, Bool, ◌==◌, ◌&&◌, ◌||◌, if◌then◌else◌, List, length, Option, Some, None, codes, is_ok}
+use Rattle.std.specs.Prelude.{ℕ, Bool, true, ◌==◌, ◌&&◌, ◌||◌, List, [], ◌∷◌, find, length, Option, codes, is_ok}
 use Rattle.std.specs.Str.{bytes_eq}
 use Rattle.plan_text.specs.Fields.{field, is_within, number_at}
 use Rattle.plan_text.specs.Rows.{Fields}
 use Rattle.plan_text.specs.declared.kind.Kind.{Kind}
 use Rattle.plan_text.specs.declared.kind.Kind.TheVariants as kind
+use Rattle.plan_text.specs.declared.kind.TheConstants.{MOST_FIELDS}
 
 -- a row with no field, or whose first field is `note`
 abbrev pub is_passed_over : Fields → Bool
@@ -14,30 +15,41 @@ is_passed_over row = (length row == 0) || bytes_eq (field row 0) (codes "note")
 abbrev pub is_version_two : Fields → Bool
 is_version_two row = bytes_eq (field row 0) (codes "version") && is_ok (number_at 2 2 0 row 1)
 
+-- the keyword of a kind, and the fewest and the most fields of a record of it, the keyword included
+pub record Shape : Type 0 where
+  pub keyword : List ℕ
+  pub fewest : ℕ
+  pub most : ℕ
+
+abbrev shape : List ℕ → ℕ → ℕ → Shape
+shape keyword fewest most = record { keyword = keyword; fewest = fewest; most = most }
+
+abbrev pub shape_of : Kind → Shape
+shape_of kind.Version = shape (codes "version") 2 2
+shape_of kind.Line = shape (codes "line") 2 2
+shape_of kind.Rule = shape (codes "rule") 2 2
+shape_of kind.Period = shape (codes "period") 2 2
+shape_of kind.Unit = shape (codes "unit") 3 3
+shape_of kind.Atom = shape (codes "atom") 6 6
+shape_of kind.Travel = shape (codes "travel") 4 4
+shape_of kind.Located = shape (codes "at") 4 4
+shape_of kind.Prefer = shape (codes "prefer") 3 MOST_FIELDS
+shape_of kind.Group = shape (codes "group") 3 MOST_FIELDS
+
+abbrev pub kinds : List Kind
+kinds =
+    kind.Version ∷ kind.Line ∷ kind.Rule ∷ kind.Period ∷ kind.Unit ∷ kind.Atom ∷ kind.Travel ∷ kind.Located ∷ kind.Prefer
+    ∷ kind.Group ∷ []
+
+-- groups are a kind only if they are asked for
+abbrev pub is_asked : Bool → Kind → Bool
+is_asked groups kind.Group = groups
+is_asked groups _ = true
+
 -- the kind that a first field names
 abbrev pub kind_of : Bool → List ℕ → Option Kind
-kind_of groups word =
-    if bytes_eq word (codes "version") then Some kind.Version
-    else if bytes_eq word (codes "line") then Some kind.Line
-    else if bytes_eq word (codes "rule") then Some kind.Rule
-    else if bytes_eq word (codes "period") then Some kind.Period
-    else if bytes_eq word (codes "unit") then Some kind.Unit
-    else if bytes_eq word (codes "atom") then Some kind.Atom
-    else if bytes_eq word (codes "travel") then Some kind.Travel
-    else if bytes_eq word (codes "at") then Some kind.Located
-    else if bytes_eq word (codes "prefer") then Some kind.Prefer
-    else if groups && bytes_eq word (codes "group") then Some kind.Group
-    else None
+kind_of groups keyword = find (λ k. is_asked groups k && bytes_eq keyword (shape_of k).keyword) kinds
 
--- how many fields a record of a kind has, the kind itself included
+-- how many fields a record of a kind may have
 abbrev pub has_field_count : Kind → ℕ → Bool
-has_field_count kind.Version count = count == 2
-has_field_count kind.Line count = count == 2
-has_field_count kind.Rule count = count == 2
-has_field_count kind.Period count = count == 2
-has_field_count kind.Unit count = count == 3
-has_field_count kind.Atom count = count == 6
-has_field_count kind.Travel count = count == 4
-has_field_count kind.Located count = count == 4
-has_field_count kind.Prefer count = is_within 3 14 count
-has_field_count kind.Group count = is_within 3 14 count
+has_field_count k count = is_within (shape_of k).fewest (shape_of k).most count

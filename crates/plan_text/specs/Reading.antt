@@ -6,6 +6,7 @@ use Rattle.plan_text.specs.Fields.{field, line_at, name_at, number_at, rule_at}
 use Rattle.plan_text.specs.Kinds.{has_field_count, is_passed_over, is_version_two, kind_of}
 use Rattle.plan_text.specs.Rows.{Fields, rows_of}
 use Rattle.plan_text.specs.Steps.{◌>>=◌}
+use Rattle.plan_text.specs.declared.TheConstants.{MOST_RECORDS, MOST_TEXT_BYTES}
 use Rattle.plan_text.specs.declared.kind.Kind.{Kind}
 use Rattle.plan_text.specs.declared.kind.Kind.TheVariants as kind
 use Rattle.plan_text.specs.declared.record.Record.{Record}
@@ -102,15 +103,15 @@ record_of_kind (Some k) at row = if has_field_count k (length row) then record_o
 -- the record, if there is one, that a row with this number says
 unfoldable pub reading_of : ℕ → Bool → Fields → Result (Option Record) TextRefusal
 reading_of number groups row =
-    if nat_lt 50000 number then Err (TooManyRecords number)
+    if nat_lt MOST_RECORDS number then Err (TooManyRecords number)
     else if is_passed_over row then Ok None
     else (record_of_kind (kind_of groups (field row 0)) number row >>= λ found. Ok (Some found))
 
--- the same of a row that stands behind others, which number it and say whether groups are a kind
+-- the same of a row that stands after others, which number it and say whether groups are a kind
 abbrev pub row_reading : List Fields → Fields → Result (Option Record) TextRefusal
 row_reading before row = reading_of (length before + 1) (list_any is_version_two before) row
 
--- the records that rows say, behind others
+-- the records that rows say, after others
 unfoldable pub records_after : List Fields → List Fields → Result (List Record) TextRefusal
 records_after before [] = Ok []
 records_after before (row ∷ rows) = do
@@ -120,4 +121,4 @@ records_after before (row ∷ rows) = do
 
 -- the records of a text
 unfoldable pub records_of : List ℕ → Result (List Record) TextRefusal
-records_of bytes = if nat_lt 4194304 (length bytes) then Err (TooLong (length bytes)) else records_after [] (rows_of bytes)
+records_of bytes = if nat_lt MOST_TEXT_BYTES (length bytes) then Err (TooLong (length bytes)) else records_after [] (rows_of bytes)

@@ -27,14 +27,14 @@ abbrev pub is_empty_field : List ℕ → Bool
 is_empty_field field = length field == 0
 
 -- what counts of a record: its fields without blanks, up to the last that has a byte
-abbrev pub cleaned : Fields → Fields
-cleaned fields = drop_last_while is_empty_field (map without_blanks fields)
+abbrev pub clean_row : Fields → Fields
+clean_row fields = drop_last_while is_empty_field (map without_blanks fields)
 
--- a text behind all byte order marks at its start
+-- a text after all byte order marks at its start
 abbrev pub without_marks : List ℕ → List ℕ
 without_marks (a ∷ b ∷ c ∷ rest) = if is_bom a b c then without_marks rest else a ∷ b ∷ c ∷ rest
 without_marks rest = rest
 
--- each record of a text of comma-separated values, cleaned, in order
+-- each record of a text of comma-separated values, as far as it counts, in order
 abbrev pub rows_of : List ℕ → List Fields
-rows_of bytes = map cleaned (records default_config (without_marks bytes))
+rows_of bytes = map clean_row (records default_config (without_marks bytes))

@@ -1,10 +1,10 @@
 ghost use Rattle.std.specs.Prelude.{◌≡◌, [], length, map, take, slice_index_or};
 ghost use Rattle.csv.specs.Records.{fields_of};
-ghost use Rattle.plan_text.specs.Rows.{cleaned, is_blank, drop_while, drop_last_while, without_blanks, without_marks};
+ghost use Rattle.plan_text.specs.Rows.{clean_row, is_blank, drop_while, drop_last_while, without_blanks, without_marks};
 
 use csv::ByteRecord;
 
-/// The text behind all byte order marks that it begins with.
+/// The text after all byte order marks that it begins with.
 pub(crate) fn skip_marks(bytes: &[u8]) -> &[u8]
     ensures { result.now ≡ without_marks bytes.now }
 {
@@ -47,7 +47,7 @@ fn trim_back(field: &[u8]) -> &[u8]
     rest
 }
 
-/// The field at this place without the blanks at its ends, empty where there is none.
+/// The field at this place without the blanks at its ends, empty if there is none.
 pub(crate) fn trimmed_at(source: &ByteRecord, place: usize) -> &[u8]
     ensures { result.now ≡ slice_index_or (map without_blanks (fields_of source.now)) place [] }
 {
@@ -57,10 +57,10 @@ pub(crate) fn trimmed_at(source: &ByteRecord, place: usize) -> &[u8]
     }
 }
 
-/// How many fields there are up to the last that has a byte beside blanks.
+/// How many fields there are up to the last that has a byte other than blanks.
 pub(crate) fn count_fields(source: &ByteRecord) -> usize
-    ensures count { result ≡ length (cleaned (fields_of source.now)) }
-    ensures front { cleaned (fields_of source.now) ≡ take result (map without_blanks (fields_of source.now)) }
+    ensures count { result ≡ length (clean_row (fields_of source.now)) }
+    ensures front { clean_row (fields_of source.now) ≡ take result (map without_blanks (fields_of source.now)) }
 {
     let mut count = source.len();
     while count > 0 && trimmed_at(source, count - 1).is_empty() {

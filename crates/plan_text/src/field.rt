@@ -14,9 +14,9 @@ use std::alloc::Global;
 /// The most digits that a number has.
 const MOST_DIGITS: usize = 9;
 
-/// The text of a field of record `number`, with the fields counted from 0: no text behind the last field.
+/// The text of a field of record `number`, with the fields counted from 0: no text after the last field.
 ///
-/// Refused where the field is no UTF-8.
+/// Refused if the field is no UTF-8.
 pub fn text_at<'a>(row: &'a Row<'_>, number: u32, place: usize) -> Result<&'a str, TextRefusal>
     ensures text { IfOk result (λ text. text.now ≡ field row.now place) }
     ensures utf8 { IfOk result (λ _. is_utf8 (field row.now place) ≡ true) }

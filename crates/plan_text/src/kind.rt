@@ -1,10 +1,14 @@
-ghost use Rattle.std.specs.Prelude.{◌≡◌, length};
+ghost use Rattle.std.specs.Prelude.{◌≡◌, ◌≤◌, IsTrue};
 ghost use Rattle.plan_text.specs.Kinds as spec;
-ghost use Rattle.plan_text.specs.Kinds.{has_field_count, is_passed_over, is_version_two};
+ghost use Rattle.plan_text.specs.Kinds.{has_field_count, is_passed_over, is_version_two, shape_of};
 
 use crate::{Row, number_at};
+use hyper_model::MOST_UNITS;
 
-/// What a record tells, as its first field says.
+/// The most fields that a record has: a keyword, an atom and as many units as there can be.
+pub(crate) const MOST_FIELDS: usize = MOST_UNITS + 2;
+
+/// What a record is about, as its first field says.
 #[derive(Clone, Copy, Debug, PartialEq, Eq)]
 pub(crate) enum Kind {
     Version,
@@ -19,46 +23,57 @@ pub(crate) enum Kind {
     Group,
 }
 
-/// The kind that a first field names. Groups are a kind only where they are asked for.
-pub(crate) fn kind_of(word: &[u8], groups: bool) -> Option<Kind>
-    ensures { result ≡ spec.kind_of groups word.now }
+/// The kind that a first field names. Groups are a kind only if they are asked for.
+pub(crate) fn kind_of(keyword: &[u8], groups: bool) -> Option<Kind>
+    ensures { result ≡ spec.kind_of groups keyword.now }
 {
-    if word == b"version".as_slice() {
+    if keyword == b"version".as_slice() {
         Some(Kind::Version)
-    } else if word == b"line".as_slice() {
+    } else if keyword == b"line".as_slice() {
         Some(Kind::Line)
-    } else if word == b"rule".as_slice() {
+    } else if keyword == b"rule".as_slice() {
         Some(Kind::Rule)
-    } else if word == b"period".as_slice() {
+    } else if keyword == b"period".as_slice() {
         Some(Kind::Period)
-    } else if word == b"unit".as_slice() {
+    } else if keyword == b"unit".as_slice() {
         Some(Kind::Unit)
-    } else if word == b"atom".as_slice() {
+    } else if keyword == b"atom".as_slice() {
         Some(Kind::Atom)
-    } else if word == b"travel".as_slice() {
+    } else if keyword == b"travel".as_slice() {
         Some(Kind::Travel)
-    } else if word == b"at".as_slice() {
+    } else if keyword == b"at".as_slice() {
         Some(Kind::Located)
-    } else if word == b"prefer".as_slice() {
+    } else if keyword == b"prefer".as_slice() {
         Some(Kind::Prefer)
-    } else if groups && word == b"group".as_slice() {
+    } else if groups && keyword == b"group".as_slice() {
         Some(Kind::Group)
     } else {
         None
     }
 }
 
-/// Whether a record of this kind can have this many fields.
-pub(crate) fn may_have(kind: Kind, count: usize) -> bool
-    ensures { result ≡ has_field_count kind count }
+/// The fewest and the most fields of a record of this kind, the kind itself included.
+fn field_counts(kind: Kind) -> (usize, usize)
+    ensures fewest { result.0 ≡ (shape_of kind).fewest }
+    ensures most { result.1 ≡ (shape_of kind).most }
+    ensures few { result.1 ≤ MOST_FIELDS }
 {
     match kind {
-        Kind::Version | Kind::Line | Kind::Rule | Kind::Period => count == 2,
-        Kind::Unit => count == 3,
-        Kind::Atom => count == 6,
-        Kind::Travel | Kind::Located => count == 4,
-        Kind::Prefer | Kind::Group => 3 <= count && count <= 14,
+        Kind::Version | Kind::Line | Kind::Rule | Kind::Period => (2, 2),
+        Kind::Unit => (3, 3),
+        Kind::Atom => (6, 6),
+        Kind::Travel | Kind::Located => (4, 4),
+        Kind::Prefer | Kind::Group => (3, MOST_FIELDS),
     }
+}
+
+/// Whether a record of this kind can have this many fields.
+pub(crate) fn may_have(kind: Kind, count: usize) -> bool
+    ensures count { result ≡ has_field_count kind count }
+    ensures few { IsTrue result → count ≤ MOST_FIELDS }
+{
+    let (fewest, most) = field_counts(kind);
+    fewest <= count && count <= most
 }
 
 /// Whether a row gives no record: it has no field, or is a note.

@@ -9,8 +9,6 @@ mod record;
 mod record_list;
 mod refusal;
 mod row_list;
-#[cfg(test)]
-mod tests;
 
 pub use field::{line_at, name_at, number_at, rule_at, text_at};
 pub use reading::read_row;

@@ -3,12 +3,12 @@ ghost use Rattle.plan_text.specs.Reading as spec;
 ghost use Rattle.plan_text.specs.Reading.{names_at, reading_of};
 ghost use Rattle.plan_text.specs.Steps.{Gives};
 
-use crate::kind::{Kind, is_skipped, kind_of, may_have};
+use crate::kind::{Kind, MOST_FIELDS, is_skipped, kind_of, may_have};
 use crate::{MOST_RECORDS, Record, Row, TextRefusal, line_at, name_at, number_at, rule_at};
-use hyper_model::Names;
+use hyper_model::{MOST_UNITS, Names};
 use std::alloc::Global;
 
-/// The record, if there is one, that a row with this number says. `groups` tells whether groups are a kind of record.
+/// The record, if there is one, that a row with this number says. `groups` says whether groups are a kind of record.
 ///
 /// A row with no field, or whose first field is `note`, gives none. A number beyond [`MOST_RECORDS`] is refused before
 /// the row is looked at; then an unknown kind is refused, then a wrong number of fields, then the fields from left to right.
@@ -39,7 +39,7 @@ pub fn read_row(
 }
 
 fn record_of(alloc: Global, row: &Row<'_>, at: u32, kind: Kind) -> Result<Record, TextRefusal>
-    requires { length row.now ≤ 14 }
+    requires { length row.now ≤ MOST_FIELDS }
     ensures { Gives TextRefusal.NoMemory (λ read. read) result (spec.record_of kind at row.now) }
 {
     match kind {
@@ -148,7 +148,7 @@ fn located_of(alloc: Global, row: &Row<'_>, at: u32) -> Result<Record, TextRefus
 
 #[tactic(auto, unfolding(crate::specs::Reading::prefer_of))]
 fn prefer_of(alloc: Global, row: &Row<'_>, at: u32) -> Result<Record, TextRefusal>
-    requires { length row.now ≤ 14 }
+    requires { length row.now ≤ MOST_FIELDS }
     ensures { Gives TextRefusal.NoMemory (λ read. read) result (spec.prefer_of at row.now) }
 {
     let atom = name_at(alloc, row, at, 1)?;
@@ -158,7 +158,7 @@ fn prefer_of(alloc: Global, row: &Row<'_>, at: u32) -> Result<Record, TextRefusa
 
 #[tactic(auto, unfolding(crate::specs::Reading::group_of))]
 fn group_of(alloc: Global, row: &Row<'_>, at: u32) -> Result<Record, TextRefusal>
-    requires { length row.now ≤ 14 }
+    requires { length row.now ≤ MOST_FIELDS }
     ensures { Gives TextRefusal.NoMemory (λ read. read) result (spec.group_of at row.now) }
 {
     let atom = name_at(alloc, row, at, 1)?;
@@ -166,12 +166,12 @@ fn group_of(alloc: Global, row: &Row<'_>, at: u32) -> Result<Record, TextRefusal
     Ok(Record::Group { at, atom, units })
 }
 
-// The names behind the kind and the atom.
+// The names after the kind and the atom.
 fn names_of(alloc: Global, row: &Row<'_>, at: u32) -> Result<Names, TextRefusal>
-    requires { length row.now ≤ 14 }
+    requires { length row.now ≤ MOST_FIELDS }
     ensures { Gives TextRefusal.NoMemory (λ names. names) result (names_at (length row.now - 2) at row.now 2) }
 {
-    let Ok(mut names) = Names::reserved(alloc) else {
+    let Ok(mut names) = Names::reserved(alloc, MOST_UNITS) else {
         return Err(TextRefusal::NoMemory)
     };
     for place in 2..row.len() {

@@ -14,7 +14,7 @@ use std::alloc::Global;
 /// The records of a plan's text, in order, without notes and rows that have no field.
 ///
 /// A text of more than [`MOST_TEXT_BYTES`] is refused before it is read. Else the refusal is that of the first row that
-/// is refused, as [`read_row`] reads it; groups are a kind of record behind a `version` record whose number is 2.
+/// is refused, as [`read_row`] reads it; groups are a kind of record after a `version` record whose number is 2.
 #[tactic(auto, unfolding(crate::specs::Reading::records_of))]
 pub fn records(alloc: Global, bytes: &[u8]) -> Result<Vec<Record>, TextRefusal>
     ensures records { Gives TextRefusal.NoMemory (λ found. found.items) result (records_of bytes.now) }

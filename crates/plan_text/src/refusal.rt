@@ -20,7 +20,7 @@ pub enum TextRefusal {
     /// In this record, this field is no number in the range that is asked for.
     #[error("record {0} has no number in range in field {1}")]
     BadNumber(u64, u64),
-    /// In this record, this field is no name, or none of the words that may stand there.
+    /// In this record, this field is no name, or none of the keywords that may stand there.
     #[error("record {0} has no name or known word in field {1}")]
     BadName(u64, u64),
     /// This record is the first of more than [`MOST_RECORDS`](crate::MOST_RECORDS).

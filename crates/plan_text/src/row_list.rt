@@ -18,13 +18,13 @@ pub struct Row<'a> {
 impl<'a> Model for Row<'a> {
     ghost use Rattle.std.specs.Prelude.{◌≡◌, length};
     ghost use Rattle.csv.specs.Records.{fields_of};
-    ghost use Rattle.plan_text.specs.Rows.{Fields, cleaned};
+    ghost use Rattle.plan_text.specs.Rows.{Fields, clean_row};
 
     ghost Value = { Fields };
 
-    ghost view = { λ a. cleaned (fields_of a.source.now) };
+    ghost view = { λ a. clean_row (fields_of a.source.now) };
 
-    ghost invariant = { λ a. a.count ≡ length (cleaned (fields_of a.source.now)) };
+    ghost invariant = { λ a. a.count ≡ length (clean_row (fields_of a.source.now)) };
 }
 
 impl<'a> Row<'a> {
@@ -42,7 +42,7 @@ impl<'a> Row<'a> {
         self.count == 0
     }
 
-    /// The bytes of the field at this place, counted from 0: none behind the last field.
+    /// The bytes of the field at this place, counted from 0: none after the last field.
     pub fn field(&self, place: usize) -> &[u8]
         ensures { result.now ≡ slice_index_or self.now place [] }
     {
@@ -63,11 +63,11 @@ pub struct RowList {
 impl Model for RowList {
     ghost use Rattle.std.specs.Prelude.{List, map};
     ghost use Rattle.csv.specs.Records.{fields_of};
-    ghost use Rattle.plan_text.specs.Rows.{Fields, cleaned};
+    ghost use Rattle.plan_text.specs.Rows.{Fields, clean_row};
 
     ghost Value = { List Fields };
 
-    ghost view = { λ a. map (λ source. cleaned (fields_of source)) a.items.items };
+    ghost view = { λ a. map (λ source. clean_row (fields_of source)) a.items.items };
 }
 
 impl RowList {
@@ -117,8 +117,8 @@ impl RowList {
 
 /// The rows of a text of comma-separated values.
 ///
-/// Byte order marks at the start are dropped, as often as they stand there. Fields may be quoted, lines may end in
-/// either way, and rows may differ in length. An empty line gives no row.
+/// Byte order marks at the start are dropped, as often as they stand there. Fields may be quoted, text lines may
+/// end in either way, and rows may differ in length. An empty text line gives no row.
 pub fn rows(alloc: Global, bytes: &[u8]) -> Result<RowList, AllocError>
     ensures { IfOk result (λ rows. rows ≡ rows_of bytes.now) }
 {
@@ -126,7 +126,7 @@ pub fn rows(alloc: Global, bytes: &[u8]) -> Result<RowList, AllocError>
     Ok(RowList { items })
 }
 
-// Reading bytes that are in memory fails only for want of memory: any length of a record is allowed, and no field has
+// Reading bytes that are in memory fails only for lack of memory: any length of a record is allowed, and no field has
 // to be text.
 fn all_records(alloc: Global, text: &[u8]) -> Result<Vec<ByteRecord>, AllocError>
     ensures { IfOk result (λ found. map fields_of found.items ≡ records default_config (strip_bom text.now)) }

@@ -18,11 +18,12 @@ use Rattle.plan_text.specs.declared.record.Record.{Record}
 use Rattle.atom_table.specs.Entries.{Entries, HasEntries, atom_names, unit_names}
 use Rattle.preference_rules.specs.Centred.{centred_lists, centred_row}
 use Rattle.preference_rules.specs.CentreOrder.{centre_list}
-use Rattle.preference_rules.specs.Drafts.{drafts_of, given_groups, row_of_groups}
-use Rattle.preference_rules.specs.Given.{asked_records_refusal, centred_lists_of, drafts_refusal, given_lists, given_lists_of, preferences_of, twice_records_refusal}
+use Rattle.preference_rules.specs.Drafts.{drafts_of, drafts_refusal}
+use Rattle.preference_rules.specs.Given.{asked_records_refusal, centred_lists_of, given_lists, given_lists_of, lists_refusal, preferences_of, twice_records_refusal}
+use Rattle.preference_rules.specs.Lists.{given_groups, row_of_groups}
 use Rattle.preference_rules.specs.Places.{cost_of}
 use Rattle.preference_rules.proofs.CentreLists.{centre_is}
-use Rattle.preference_rules.proofs.GivenRows.{passed_full}
+use Rattle.preference_rules.proofs.GivenRows.{lists_refusal-is, passed_full}
 
 -- what is given where nothing is refused
 unrefused : {A E : Type 0} (refused : Option E) (x y : A) → (unless_refused refused >>= λ _. Ok x) ≡ Ok y → (refused ≡ None) × (y ≡ x)
@@ -37,9 +38,9 @@ given_ok : (units atoms : List (List ℕ)) (records : List Record) (lists : Grou
     → (drafts_refusal (length units) (drafts_of units atoms records) ≡ None) × (lists ≡ given_lists units atoms records)
 unfolding given_lists_of
 given_ok units atoms records lists h =
-    let (none, is) = unrefused (option_or (twice_records_refusal atoms records) (drafts_refusal (length units) (drafts_of units atoms records)))
+    let (none, is) = unrefused (option_or (twice_records_refusal atoms records) (lists_refusal units atoms records))
     (given_lists units atoms records) lists h in
-    (second_none (twice_records_refusal atoms records) (drafts_refusal (length units) (drafts_of units atoms records)) none, is)
+    (lists_refusal-is units atoms records ∙ second_none (twice_records_refusal atoms records) (lists_refusal units atoms records) none, is)
 
 given_grouped : (units atoms : List (List ℕ)) (records : List Record) (j : ℕ) → 0 < length units
     → drafts_refusal (length units) (drafts_of units atoms records) ≡ None → j < length atoms

@@ -13,9 +13,11 @@ use Rattle.std.proofs.lemmas.Option.{get_or_from_slice_get, slice_get_within}
 use Rattle.plan_text.specs.declared.record.Record.{Record}
 use Rattle.plan_text.specs.declared.record.Record.TheVariants as rec
 use Rattle.atom_table.specs.Names.{place_or_zero}
+use Rattle.atom_table.proofs.GivenValues.{listed_set}
 use Rattle.atom_table.proofs.OwnNames.{place_or_zero-within}
-use Rattle.preference_rules.specs.Drafts.{Draft, begins_of, draft_at, draft_of, drafts_of, given_groups, groups_for, is_list_for, is_order_for, no_draft, places_of, row_of_groups, with_group, with_next, with_order, with_record}
-use Rattle.preference_rules.specs.Given.{again_refusal, twice_refusal}
+use Rattle.preference_rules.specs.Drafts.{Draft, again_refusal, draft_at, draft_of, drafts_of, no_draft, with_group, with_next, with_order, with_record}
+use Rattle.preference_rules.specs.Given.{twice_refusal}
+use Rattle.preference_rules.specs.Lists.{begins_of, given_groups, groups_for, is_list_for, is_order_for, places_of, row_of_groups}
 use Rattle.preference_rules.specs.declared.refusal.ListRefusal.{ListRefusal}
 
 -- one unit more in a group
@@ -115,24 +117,6 @@ left_out b x y e = rw e refl
 map_same : {A B : Type 0} (f g : A → B) → ((x : A) → f x ≡ g x) → (xs : List A) → map f xs ≡ map g xs
 map_same f g h [] = refl
 map_same f g h (x ∷ xs) = rw (h x, map_same f g h xs) refl
-
--- a value at place k, where g is f but for that
-listed_set : {X : Type 0} (f g : ℕ → X) (n k : ℕ) (x d : X) → k < n → g k ≡ x → ((i : ℕ) → i < n → i ≢ k → g i ≡ f i)
-    → set (map f (range_with_len 0 n)) k x ≡ map g (range_with_len 0 n)
-listed_set {X} f g n k x d lt here others =
-    fill_by_all g (set (map f (range_with_len 0 n)) k x) n d
-    (length-set (map f (range_with_len 0 n)) k x ∙ length-map-range_with_len f 0 n) each
-  where
-    each : (i : ℕ) → i < n → get_or (set (map f (range_with_len 0 n)) k x) i d ≡ g i
-    each i h = elim (cases_eq i k) [
-      | inl e ↦
-          let inside : k < length (map f (range_with_len 0 n)) = omega (arith, length-map-range_with_len f 0 n) in
-          rw e (get_or-set_same (map f (range_with_len 0 n)) k x d inside ∙ sym here)
-      | inr ne ↦
-          get_or-set_other (map f (range_with_len 0 n)) k i x d ne
-          ∙ get_or-map-range_with_len f 0 n i i d h (omega arith)
-          ∙ sym (others i h ne)
-    ]
 
 -- the draft of an atom
 pub draft_at-drafts_of : (units atoms : List (List ℕ)) (records : List Record) (j : ℕ) → j < length atoms

@@ -17,8 +17,8 @@ use Rattle.plan_text.specs.declared.record.Record.{Record}
 use Rattle.plan_text.specs.declared.record.Record.TheVariants as rec
 use Rattle.atom_table.specs.Names.{place_or_zero}
 use Rattle.atom_table.proofs.OwnNames.{place_or_zero-within}
-use Rattle.preference_rules.specs.Drafts.{begins_of, given_groups, groups_for, places_of, row_of_groups}
 use Rattle.preference_rules.specs.Given.{holds_each}
+use Rattle.preference_rules.specs.Lists.{begins_of, given_groups, groups_for, places_of, row_of_groups}
 use Rattle.preference_rules.proofs.DraftSteps.{singles_members}
 
 abbrev all_units : List (List ℕ) → List ℕ
@@ -121,7 +121,7 @@ first_begins [] = refl
 first_begins ([] ∷ groups) = first_begins groups
 first_begins ((unit ∷ group) ∷ groups) = refl
 
--- the groups of the list that groups make: first the rest of a group, then the groups behind it
+-- the groups of the list of all groups: first the rest of a group, then the groups after it
 abbrev Filled : List ℕ → Type 0
 Filled group = 0 < length group
 

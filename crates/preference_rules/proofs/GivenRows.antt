@@ -1,15 +1,18 @@
 -- The lists of drafts that no record and no list is refused for.
-use Rattle.std.proofs.Common.{◌≡◌, ◌∙◌, ◌⊎◌, ℕ, ◌+◌, ◌<◌, true, false, List, [], ◌∷◌, ◌++◌, length, get_or, set, take, drop, replicate, refl, sym, ap, inl, inr, arith}
+use Rattle.std.proofs.Common.{◌≡◌, ◌∙◌, ◌⊎◌, ℕ, zero, suc, ◌+◌, ◌<◌, true, false, List, [], ◌∷◌, ◌++◌, length, get_or, set, take, drop, replicate, refl, sym, ap, inl, inr, arith}
 use Rattle.std.specs.Prelude.{Bool, not, if◌then◌else◌, All, Option, Some, None, Ok, Err, map}
 use Rattle.std.specs.List.{range_with_len}
+use Rattle.std.specs.Option.{option_or}
 use Rattle.std.proofs.lemmas.List as lists
 use Rattle.std.proofs.lemmas.List.Elements.{All-from_get_or}
 use Rattle.hyper_model.specs.Acceptance.{IsFullList}
 use Rattle.hyper_model.specs.Groups.{AtomList, GroupLists, no_row, row_of, with_joined}
 use Rattle.plan_text.specs.declared.record.Record.{Record}
+use Rattle.plan_text.specs.Steps.{first_over}
 use Rattle.plan_text.proofs.Over.{over-each}
-use Rattle.preference_rules.specs.Drafts.{Draft, draft_of, drafts_of, given_groups, no_draft, row_of_groups}
-use Rattle.preference_rules.specs.Given.{IsFilled, draft_refusal, draft_rows, drafts_refusal, given_lists, given_lists_of, holds_each, twice_records_refusal}
+use Rattle.preference_rules.specs.Drafts.{Draft, IsFilled, draft_of, draft_refusal, draft_rows, drafts_of, drafts_refusal, no_draft}
+use Rattle.preference_rules.specs.Given.{given_lists, given_lists_of, holds_each, list_refusal, lists_refusal, twice_records_refusal}
+use Rattle.preference_rules.specs.Lists.{given_groups, row_of_groups}
 use Rattle.preference_rules.specs.Rows.{with_begins, with_members, with_row}
 use Rattle.preference_rules.specs.declared.refusal.ListRefusal.{ListRefusal}
 use Rattle.preference_rules.specs.declared.refusal.ListRefusal.TheVariants.{ListNotWhole, MissingList}
@@ -67,6 +70,28 @@ pub draft_rows-drafts_of : (units atoms : List (List ℕ)) (records : List Recor
 draft_rows-drafts_of units atoms records =
     rw (map_map (λ (draft : Draft). draft.row) (draft_of units atoms records) (range_with_len 0 (length atoms))) refl
 
+-- the first list that is refused is that of the first draft that is
+first_drafts : (units atoms : List (List ℕ)) (records : List Record) (n : ℕ) (before : List ℕ)
+    → first_over (λ (drafts : List Draft). draft_refusal (length units) (length drafts)) (map (draft_of units atoms records) before)
+    (map (draft_of units atoms records) (range_with_len (length before) n))
+    ≡ first_over (λ (others : List ℕ). list_refusal units atoms records) before (range_with_len (length before) n)
+first_drafts units atoms records zero before = refl
+first_drafts units atoms records (suc n) before =
+    let D : ℕ → Draft = draft_of units atoms records in
+    let j : ℕ = length before in
+    let here : draft_refusal (length units) (length (map D before)) (D j) ≡ list_refusal units atoms records j =
+    ap (λ (m : ℕ). draft_refusal (length units) m (D j)) (lists.length-map before D) in
+    let long : length (before ++ j ∷ []) ≡ j + 1 = lists.length-append before (j ∷ []) in
+    let more : map D (before ++ j ∷ []) ≡ map D before ++ D j ∷ [] = lists.map-append D before (j ∷ []) in
+    let rest = rw (long, more) at (first_drafts units atoms records n (before ++ j ∷ [])) in
+    ap (λ (o : Option ListRefusal). option_or o
+    (first_over (λ (drafts : List Draft). draft_refusal (length units) (length drafts)) (map D before ++ D j ∷ []) (map D (range_with_len (j + 1) n)))) here
+    ∙ ap (option_or (list_refusal units atoms records j)) rest
+
+pub lists_refusal-is : (units atoms : List (List ℕ)) (records : List Record)
+    → drafts_refusal (length units) (drafts_of units atoms records) ≡ lists_refusal units atoms records
+lists_refusal-is units atoms records = first_drafts units atoms records (length atoms) []
+
 -- both parts of a row
 pub row-put : (rows : GroupLists) (atom : ℕ) (members : List ℕ) (begins : List Bool) → atom < length rows.rows
     → with_begins (with_members rows atom members) atom begins ≡ with_row rows atom members begins
@@ -83,7 +108,7 @@ joined-put rows atom place begins lt =
     lists.get_or-set_same rows.rows atom (record (row_of rows atom) { begins = begins }) no_row lt in
     rw (there, lists.set-set) refl
 
--- where groups begin as far as it is written, and at each place behind
+-- where groups begin as far as it is written, and at each later place
 abbrev pub begun : List Bool → ℕ → ℕ → List Bool
 begun begins units place = take place begins ++ drop place (replicate units true)
 
@@ -157,8 +182,8 @@ pub given-stop_list : (units atoms : List (List ℕ)) (records : List Record) (n
     → given_lists_of units atoms records ≡ Err e
 unfolding given_lists_of
 given-stop_list units atoms records n drafts e many is none h =
-    let refused : drafts_refusal (length units) (drafts_of units atoms records) ≡ Some e =
-    ap (λ (all : List Draft). drafts_refusal (length units) all) (sym is) ∙ ap (λ (m : ℕ). drafts_refusal m drafts) (sym many) ∙ h in
+    let refused : lists_refusal units atoms records ≡ Some e =
+    sym (lists_refusal-is units atoms records) ∙ ap (λ (all : List Draft). drafts_refusal (length units) all) (sym is) ∙ ap (λ (m : ℕ). drafts_refusal m drafts) (sym many) ∙ h in
     rw (none, refused) refl
 
 pub given-done : (units atoms : List (List ℕ)) (records : List Record) (n : ℕ) (drafts : List Draft) (made : GroupLists) → n ≡ length units
@@ -166,8 +191,8 @@ pub given-done : (units atoms : List (List ℕ)) (records : List Record) (n : �
     → made ≡ draft_rows n drafts → given_lists_of units atoms records ≡ Ok made
 unfolding given_lists_of
 given-done units atoms records n drafts made many is none h rows =
-    let passed : drafts_refusal (length units) (drafts_of units atoms records) ≡ None =
-    ap (λ (all : List Draft). drafts_refusal (length units) all) (sym is) ∙ ap (λ (m : ℕ). drafts_refusal m drafts) (sym many) ∙ h in
+    let passed : lists_refusal units atoms records ≡ None =
+    sym (lists_refusal-is units atoms records) ∙ ap (λ (all : List Draft). drafts_refusal (length units) all) (sym is) ∙ ap (λ (m : ℕ). drafts_refusal m drafts) (sym many) ∙ h in
     let all : made ≡ given_lists units atoms records =
     rows ∙ ap (λ (m : ℕ). draft_rows m drafts) many ∙ ap (λ (ds : List Draft). draft_rows (length units) ds) is
     ∙ draft_rows-drafts_of units atoms records in

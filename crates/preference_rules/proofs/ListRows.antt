@@ -5,30 +5,30 @@ use Rattle.std.proofs.lemmas.List as lists
 use Rattle.hyper_model.specs.Groups.{GroupLists, list_of, no_row, row_of, with_member}
 use Rattle.preference_rules.specs.Rows.{with_members}
 
--- the first j things made into rows, and blank rows behind them
+-- the first j things made into rows, and blank rows after them
 abbrev pub made_rows : {A B : Type 0} → (A → B) → B → List A → ℕ → List B
-made_rows make blank things j = map make (take j things) ++ replicate (length things - j) blank
+made_rows build blank things j = map build (take j things) ++ replicate (length things - j) blank
 
 blank_left : {B : Type 0} (n j : ℕ) (blank : B) → j < n → replicate (n - j) blank ≡ blank ∷ replicate (n - (j + 1)) blank
 blank_left n j blank lt = let e : n - j ≡ suc (n - (j + 1)) = omega arith in rw e refl
 
-rows_made : {A B : Type 0} (make : A → B) (things : List A) (j : ℕ) → j ≤ length things → length (map make (take j things)) ≡ j
-rows_made make things j le = length-map (take j things) make ∙ length-take-le j things le
+rows_made : {A B : Type 0} (build : A → B) (things : List A) (j : ℕ) → j ≤ length things → length (map build (take j things)) ≡ j
+rows_made build things j le = length-map (take j things) build ∙ length-take-le j things le
 
 -- the next row is blank
-pub blank_at : {A B : Type 0} (make : A → B) (blank d : B) (things : List A) (j : ℕ) → j < length things
-    → get_or (made_rows make blank things j) j d ≡ blank
-blank_at make blank d things j lt =
+pub blank_at : {A B : Type 0} (build : A → B) (blank d : B) (things : List A) (j : ℕ) → j < length things
+    → get_or (made_rows build blank things j) j d ≡ blank
+blank_at build blank d things j lt =
     rw (blank_left (length things) j blank lt)
-    (get_or_at (map make (take j things)) blank (replicate (length things - (j + 1)) blank) d j (rows_made make things j (omega arith)))
+    (get_or_at (map build (take j things)) blank (replicate (length things - (j + 1)) blank) d j (rows_made build things j (omega arith)))
 
 -- one row more
-pub made_more : {A B : Type 0} (make : A → B) (blank : B) (things : List A) (j : ℕ) (x : A) → j < length things → get_or things j x ≡ x
-    → set (made_rows make blank things j) j (make x) ≡ made_rows make blank things (j + 1)
-made_more make blank things j x lt is =
+pub made_more : {A B : Type 0} (build : A → B) (blank : B) (things : List A) (j : ℕ) (x : A) → j < length things → get_or things j x ≡ x
+    → set (made_rows build blank things j) j (build x) ≡ made_rows build blank things (j + 1)
+made_more build blank things j x lt is =
     rw (
       blank_left (length things) j blank lt,
-      set_at (map make (take j things)) blank (replicate (length things - (j + 1)) blank) (make x) j (rows_made make things j (omega arith)),
+      set_at (map build (take j things)) blank (replicate (length things - (j + 1)) blank) (build x) j (rows_made build things j (omega arith)),
       take_more things j x lt,
       is,
       lists.map-append,

@@ -1,56 +1,21 @@
--- What records give for the preference list of one atom.
-use Rattle.std.specs.Prelude.{◌==◌, ◌||◌, ◌++◌, ℕ, Bool, true, false, if◌then◌else◌, List, [], ◌∷◌, length, map, replicate, slice_index_or, slice_set}
-use Rattle.std.specs.List.{flat_map, list_any, range_with_len}
-use Rattle.hyper_model.specs.Groups.{AtomList}
+-- What records give for the preference lists, while they are read one after the other.
+use Rattle.std.specs.Prelude.{◌≡◌, ◌+◌, ◌++◌, ℕ, Bool, true, false, if◌then◌else◌, not, List, [], ◌∷◌, length, map, Option, Some, None, replicate, slice_index_or, slice_set}
+use Rattle.std.specs.List.{list_any, range_with_len}
+use Rattle.hyper_model.specs.Groups.{AtomList, GroupLists}
+use Rattle.plan_text.specs.Steps.{first_over}
 use Rattle.plan_text.specs.declared.record.Record.{Record}
 use Rattle.plan_text.specs.declared.record.Record.TheVariants as rec
 use Rattle.atom_table.specs.Names.{place_or_zero}
+use Rattle.preference_rules.specs.Given.{holds_each}
+use Rattle.preference_rules.specs.Lists.{begins_of, given_groups, is_list_for, is_order_for, places_of, row_of_groups}
+use Rattle.preference_rules.specs.declared.refusal.ListRefusal.{ListRefusal}
+use Rattle.preference_rules.specs.declared.refusal.ListRefusal.TheVariants.{ListNotWhole, ListTwice, MissingList}
 
 -- the list so far, whether a record is for it, and whether a record gives it a whole order
 pub record Draft : Type 0 where
   pub row : AtomList
   pub is_listed : Bool
   pub is_ordered : Bool
-
--- of each unit of a group, whether the group begins with it
-abbrev pub begins_of : List ℕ → List Bool
-begins_of [] = []
-begins_of (unit ∷ group) = true ∷ replicate (length group) false
-
--- the list that has these groups
-abbrev pub row_of_groups : List (List ℕ) → AtomList
-row_of_groups groups = record {
-  members = flat_map (λ (group : List ℕ). group) groups;
-  begins = flat_map begins_of groups;
-}
-
--- whether a record gives atom j a whole order, and whether it gives it a group
-abbrev pub is_order_for : List (List ℕ) → ℕ → Record → Bool
-is_order_for atoms j (rec.Prefer at atom units) = place_or_zero atoms atom == j
-is_order_for atoms j _ = false
-
-abbrev pub is_group_for : List (List ℕ) → ℕ → Record → Bool
-is_group_for atoms j (rec.Group at atom units) = place_or_zero atoms atom == j
-is_group_for atoms j _ = false
-
-abbrev pub is_list_for : List (List ℕ) → ℕ → Record → Bool
-is_list_for atoms j item = is_order_for atoms j item || is_group_for atoms j item
-
--- the places of units with these names
-abbrev pub places_of : List (List ℕ) → List (List ℕ) → List ℕ
-places_of units names = map (place_or_zero units) names
-
--- the groups that a record gives atom j: each unit of an order is a group of its own
-abbrev pub groups_for : List (List ℕ) → List (List ℕ) → ℕ → Record → List (List ℕ)
-groups_for units atoms j (rec.Prefer at atom list) =
-    if place_or_zero atoms atom == j then map (λ (unit : ℕ). unit ∷ []) (places_of units list) else []
-groups_for units atoms j (rec.Group at atom list) =
-    if place_or_zero atoms atom == j then places_of units list ∷ [] else []
-groups_for units atoms j _ = []
-
--- the groups that records give atom j, in their order
-abbrev pub given_groups : List (List ℕ) → List (List ℕ) → List Record → ℕ → List (List ℕ)
-given_groups units atoms records j = flat_map (groups_for units atoms j) records
 
 -- what records give for atom j
 abbrev pub draft_of : List (List ℕ) → List (List ℕ) → List Record → ℕ → Draft
@@ -105,3 +70,32 @@ with_record units atoms drafts (rec.Prefer at atom list) =
 with_record units atoms drafts (rec.Group at atom list) =
     slice_set drafts (place_or_zero atoms atom) (with_group (draft_at drafts (place_or_zero atoms atom)) (places_of units list))
 with_record units atoms drafts _ = drafts
+
+-- a record of a list after others, by what these gave
+abbrev pub again_refusal : List (List ℕ) → List Draft → Record → Option ListRefusal
+again_refusal atoms drafts (rec.Prefer at atom units) =
+    if (draft_at drafts (place_or_zero atoms atom)).is_listed then Some (ListTwice at) else None
+again_refusal atoms drafts (rec.Group at atom units) =
+    if (draft_at drafts (place_or_zero atoms atom)).is_ordered then Some (ListTwice at) else None
+again_refusal atoms drafts _ = None
+
+-- a list of so many units, after those of other atoms: a record has to be for it, and it has to hold each unit once
+abbrev pub draft_refusal : ℕ → ℕ → Draft → Option ListRefusal
+draft_refusal units before draft =
+    if not draft.is_listed then Some (MissingList (before + 1))
+    else if not (holds_each units draft.row.members) then Some (ListNotWhole (before + 1))
+    else None
+
+-- the first atom with such a list
+abbrev pub drafts_refusal : ℕ → List Draft → Option ListRefusal
+drafts_refusal units drafts = first_over (λ before. draft_refusal units (length before)) [] drafts
+
+-- a list of n units, the first of which begins a group
+pub record IsFilled (n : ℕ) (draft : Draft) : Type 0 where
+  pub members : length draft.row.members ≡ n
+  pub begins : length draft.row.begins ≡ n
+  pub first : slice_index_or draft.row.begins 0 true ≡ true
+
+-- the lists that drafts are
+abbrev pub draft_rows : ℕ → List Draft → GroupLists
+draft_rows units drafts = record { units = units; rows = map (λ (draft : Draft). draft.row) drafts }

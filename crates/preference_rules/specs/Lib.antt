@@ -2,5 +2,6 @@ pub mod Places
 pub mod CentreOrder
 pub mod Centred
 pub mod Rows
-pub mod Drafts
+pub mod Lists
 pub mod Given
+pub mod Drafts

@@ -20,7 +20,7 @@ weighed_place atoms weight over = record {
   over = over;
 }
 
--- where a unit is on the mean: at each atom for its thousandths
+-- where a unit is on average: at each atom for its thousandths
 abbrev pub unit_place : List Atom → Grid → ℕ → Point
 unit_place atoms located unit = weighed_place atoms (cell located unit) 1000
 
@@ -38,7 +38,7 @@ weight_in district rate atom =
 abbrev pub district_weight : List Atom → ℕ → ℕ → ℕ
 district_weight atoms district k = weight_in district (district_rate atoms district) (nth_atom atoms k)
 
--- where the calls of a district come from on the mean
+-- where the calls of a district come from on average
 abbrev pub district_place : List Atom → ℕ → Point
 district_place atoms district =
     weighed_place atoms (district_weight atoms district) (sum_below (length atoms) (district_weight atoms district))

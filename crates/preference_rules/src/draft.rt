@@ -2,7 +2,8 @@ ghost use Rattle.std.specs.Prelude.{◌≡◌, ◌<◌, if◌then◌else◌, Som
 ghost use Rattle.plan_text.specs.Steps.{Checks, Refuses};
 ghost use Rattle.atom_table.specs.Entries.{unit_names};
 ghost use Rattle.hyper_model.specs.Acceptance as acceptance;
-ghost use Rattle.preference_rules.specs.Drafts.{no_draft, places_of, with_group, with_next, with_order};
+ghost use Rattle.preference_rules.specs.Drafts.{draft_refusal, no_draft, with_group, with_next, with_order};
+ghost use Rattle.preference_rules.specs.Lists.{places_of};
 ghost use Rattle.preference_rules.specs.Given as given;
 
 use crate::ListRefusal;
@@ -88,7 +89,7 @@ impl Draft {
         Ok(())
     }
 
-    /// Puts a unit behind the others.
+    /// Puts a unit after the others.
     fn push(&mut self, unit: u8, begins: bool) -> Result<(), AllocError>
         ensures { OnOk result (self.new ≡ with_next self.old unit begins) }
     {
@@ -101,7 +102,7 @@ impl Draft {
     /// once.
     pub(crate) fn check(&self, atom: usize, units: usize) -> Result<(), ListRefusal>
         requires { atom < 200 }
-        ensures { Refuses result (given.draft_refusal units atom self.now) }
+        ensures { Refuses result (draft_refusal units atom self.now) }
     {
         if !self.is_listed {
             return Err(ListRefusal::MissingList(atom as u64 + 1));

@@ -2,8 +2,9 @@ ghost use Rattle.std.specs.Prelude.{◌≡◌, ◌<◌, ◌≤◌, ℕ, List, Al
 ghost use Rattle.plan_text.specs.Steps.{Checks, Gives, Refuses};
 ghost use Rattle.atom_table.specs.Entries.{atom_names, unit_names};
 ghost use Rattle.hyper_model.specs.Groups.{groups_from};
-ghost use Rattle.preference_rules.specs.Drafts.{drafts_of, no_draft, row_of_groups, with_record};
-ghost use Rattle.preference_rules.specs.Given.{IsFilled, again_refusal, asked_records_refusal, draft_rows, drafts_refusal, given_lists_of, twice_records_refusal};
+ghost use Rattle.preference_rules.specs.Drafts.{IsFilled, again_refusal, draft_rows, drafts_of, drafts_refusal, no_draft, with_record};
+ghost use Rattle.preference_rules.specs.Given.{asked_records_refusal, given_lists_of, twice_records_refusal};
+ghost use Rattle.preference_rules.specs.Lists.{row_of_groups};
 
 use crate::ListRefusal;
 use crate::draft::Draft;

@@ -9,8 +9,6 @@ mod points;
 mod preference;
 mod refusal;
 mod rows;
-#[cfg(test)]
-mod tests;
 
 pub use centre::centred;
 pub use given::law_given_groups;

@@ -17,7 +17,7 @@ pub(crate) struct Point {
 /// The thousandths of all a unit's free time.
 const WHOLE: u128 = 1000;
 
-/// Where a unit is on the mean: at each atom for its thousandths there.
+/// Where a unit is on average: at each atom for its thousandths there.
 pub(crate) fn unit_place(atoms: &Atoms, located: &Table, unit: usize) -> Point
     requires unit { unit < located.now.rows }
     requires atoms { length atoms.now ≡ located.now.cols }

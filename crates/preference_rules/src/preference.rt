@@ -13,7 +13,7 @@ use unit_location::Locations;
 /// The preference list of each atom: by the rule `Given` those of the records, else those of [`centred`].
 ///
 /// First the records that give lists are judged in order. By another rule than `Given` the first is refused. By the rule
-/// `Given` an order has to be the only record for its atom, and a group may not stand behind an order for its atom. Then,
+/// `Given` an order has to be the only record for its atom, and a group may not stand after an order for its atom. Then,
 /// by the rule `Given`, each atom in order needs a record, and its records together have to hold every unit exactly once.
 ///
 /// The locations are those of the same units and atoms.

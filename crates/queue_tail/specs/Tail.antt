@@ -8,7 +8,7 @@ use Rattle.hyper_model.specs.Solutions.{mass_in}
 abbrev pub tail_weight : ℕ → ℕ → Ends → Ends
 tail_weight calls service full = ratio_ends full calls (service - calls)
 
--- the tail's weight goes behind that of this word, which is the last, with the same shift for all
+-- the tail's weight goes after that of this word, which is the last, with the same shift for all
 abbrev pub GainsTail : ℕ → ℕ → List Ends → List Ends → Type 0
 GainsTail calls service old new = PushesShifted old new (tail_weight calls service (ends_at old (length old - 1)))
 

@@ -7,10 +7,7 @@ ghost use Rattle.queue_tail.specs.Tail.{GainsTail, IsTailOf};
 
 use fixed_interval::Weights;
 
-#[cfg(test)]
-mod tests;
-
-/// Puts the tail's weight behind those of the words.
+/// Puts the tail's weight after those of the words.
 ///
 /// The weights are in the order of the words, so the last is that of the word in which all units are
 /// busy. While they are, a call that comes waits. It waits with all who came before it for one of the

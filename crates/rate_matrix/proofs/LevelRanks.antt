@@ -5,7 +5,7 @@ use Rattle.std.proofs.lemmas.Bool.Decides.{nat_tests}
 use Rattle.std.proofs.lemmas.List.{places}
 use Rattle.std.proofs.lemmas.List.Sums.{count_by-le-length, sum_by-cons}
 use Rattle.fixed_interval.specs.Ends.{exact_ends}
-use Rattle.rate_matrix.specs.Bands.{BandOfRows, HasRow, HasColumn, IsBanded, band_of, laid_out}
+use Rattle.rate_matrix.specs.Bands.{BandOfRows, HasRow, HasColumn, IsBanded, band_of, layout}
 use Rattle.rate_matrix.specs.LevelBands.{AreBandsOf, below_level, level_band}
 
 abbrev pub Rises : List ℕ → Type 0
@@ -134,18 +134,18 @@ module _ (levels : List ℕ) (rises : Rises levels) where
   module _ (count : ℕ) (bands : List BandOfRows) (are : AreBandsOf levels count bands)
       (each : (i : ℕ) → i < length levels → slice_index levels i < count) where
     pub level_band_is : (i : ℕ) → i < length levels
-        → band_of (laid_out (length levels) true levels bands) i ≡ level_band levels (slice_index levels i)
+        → band_of (layout (length levels) true levels bands) i ≡ level_band levels (slice_index levels i)
     level_band_is i l = are.band (slice_index levels i) (each i l)
 
-    pub levels_banded : (n : ℕ) → length levels ≡ n → IsBanded (laid_out n true levels bands)
-    levels_banded n same = subst (λ k. IsBanded (laid_out k true levels bands)) same record {
+    pub levels_banded : (n : ℕ) → length levels ≡ n → IsBanded (layout n true levels bands)
+    levels_banded n same = subst (λ k. IsBanded (layout k true levels bands)) same record {
       levels = refl;
       level = λ i l. omega (arith, each i l, are.one_each);
       row = λ i l. subst (λ b. HasRow b i) (sym (level_band_is i l)) (level_row i l);
       own = λ k i h r. level_own k i (subst (λ b. HasRow b i) (are.band k (omega (arith, are.one_each, h))) r);
       cells = λ k h. subst (λ b. length b.cells ≡ b.rows * b.width) (sym (are.band k (omega (arith, are.one_each, h)))) (level_cells k);
       columns = λ k h. subst (λ b. b.left + b.width ≤ length levels) (sym (are.band k (omega (arith, are.one_each, h)))) (level_columns k);
-      falls = λ i j l h. subst (λ b. b.left ≤ (band_of (laid_out (length levels) true levels bands) j).left) (sym (level_band_is i (omega arith)))
+      falls = λ i j l h. subst (λ b. b.left ≤ (band_of (layout (length levels) true levels bands) j).left) (sym (level_band_is i (omega arith)))
           (subst (λ b. (level_band levels (slice_index levels i)).left ≤ b.left) (sym (level_band_is j h))
           (level_falls (slice_index levels i) (slice_index levels j) (rises i j l h)));
       whole = λ e. absurd (true≢false e);

@@ -14,3 +14,4 @@ pub mod MatrixUpdates
 pub mod WordChains
 pub mod LevelRanks
 pub mod PackedWords
+mod WorkedChain

@@ -3,32 +3,36 @@ use Rattle.std.proofs.Common.{◌≡◌, ◌≢◌, ℕ, ◌<◌, ◌≤◌, Lis
 use Rattle.std.proofs.lemmas.Bool.{cases_lt, cases_eq}
 use Rattle.std.proofs.lemmas.List.{get_or_past}
 use Rattle.fixed_interval.specs.Ends.{Ends, exact_ends}
-use Rattle.rate_matrix.specs.Elimination.{Entries, raised_by}
+use Rattle.rate_matrix.specs.Elimination.{Entries, raised_entries}
 use Rattle.rate_matrix.specs.Bands.{BandOfRows, BandedRates, HasRow, HasColumn, HasSameFrame, HasSameShape, IsKept, IsSound, band_at, band_entry, band_of, cap, cell_of, entry, no_band}
-use Rattle.rate_matrix.specs.Rows.{CanUpdate, IsUpdated, part_in}
-use Rattle.rate_matrix.proofs.Raising.{is_raised-from, is_raised-to, is_raised-itself, raised_by-before, raised_by-stays, raised-capped, raised-grows}
-use Rattle.rate_matrix.proofs.RowsOfBand.{raised_by-alike}
+use Rattle.rate_matrix.specs.Rows.{CanUpdate, IsUpdated, OneElimination, part_in}
+use Rattle.rate_matrix.proofs.Raising.{is_raised-from, is_raised-to, is_raised-itself, raised_entries-before, raised_entries-stays, raised_entry-capped, raised_entry-grows}
+use Rattle.rate_matrix.proofs.RowsOfBand.{raised_entries-alike}
 use Rattle.rate_matrix.proofs.BandLemmas.{band_entry_kept, entry_is, same_shape, sound_changed, with_bands}
 
 -- no entry that is raised goes past its cap, and none falls
-pub raised_by-within : (parts : ℕ → Ends) (a : Entries) (caps : ℕ → ℕ) (t i j : ℕ) → (a i j).lo ≤ (a i j).hi → (a i j).hi ≤ caps i
-    → ((a i j).lo ≤ (raised_by parts a caps t i j).lo) × ((raised_by parts a caps t i j).hi ≤ caps i)
-raised_by-within parts a caps t i j ordered capped = elim (cases_lt i t) [
+pub raised_entries-within : (parts : ℕ → Ends) (a : Entries) (caps : ℕ → ℕ) (t i j : ℕ) → (a i j).lo ≤ (a i j).hi → (a i j).hi ≤ caps i
+    → ((a i j).lo ≤ (raised_entries parts a caps t i j).lo) × ((raised_entries parts a caps t i j).hi ≤ caps i)
+raised_entries-within parts a caps t i j ordered capped = elim (cases_lt i t) [
   | inl l ↦ elim (cases_lt j t) [
     | inl k ↦ elim (cases_eq i j) [
-      | inl e ↦ stays (raised_by-stays parts a caps t i j (is_raised-itself t i j e))
-      | inr ne ↦ subst (λ e. ((a i j).lo ≤ e.lo) × (e.hi ≤ caps i)) (sym (raised_by-before parts a caps t i j l k ne))
-          (raised-grows (a i j) (a i t) (parts j) (caps i) (omega arith), raised-capped (a i j) (a i t) (parts j) (caps i))
+      | inl e ↦ stays (raised_entries-stays parts a caps t i j (is_raised-itself t i j e))
+      | inr ne ↦ subst (λ e. ((a i j).lo ≤ e.lo) × (e.hi ≤ caps i)) (sym (raised_entries-before parts a caps t i j l k ne))
+          (raised_entry-grows (a i j) (a i t) (parts j) (caps i) (omega arith), raised_entry-capped (a i j) (a i t) (parts j) (caps i))
     ]
-    | inr k ↦ stays (raised_by-stays parts a caps t i j (is_raised-to t i j k))
+    | inr k ↦ stays (raised_entries-stays parts a caps t i j (is_raised-to t i j k))
   ]
-  | inr l ↦ stays (raised_by-stays parts a caps t i j (is_raised-from t i j l))
+  | inr l ↦ stays (raised_entries-stays parts a caps t i j (is_raised-from t i j l))
 ]
   where
-    stays : raised_by parts a caps t i j ≡ a i j → ((a i j).lo ≤ (raised_by parts a caps t i j).lo) × ((raised_by parts a caps t i j).hi ≤ caps i)
+    stays : raised_entries parts a caps t i j ≡ a i j → ((a i j).lo ≤ (raised_entries parts a caps t i j).lo) × ((raised_entries parts a caps t i j).hi ≤ caps i)
     stays e = subst (λ x. ((a i j).lo ≤ x.lo) × (x.hi ≤ caps i)) (sym e) (omega arith, capped)
 
-module _ (m : BandedRates) (shares : List Ends) (s : IsSound m) (gone : m.alive < m.size) where
+-- the elimination of the state that has just retired
+abbrev pub elimination_of : BandedRates → List ℕ → List Ends → OneElimination
+elimination_of m outflows parts = record { state = m.alive; scale = m.scale; outflows = outflows; parts = parts }
+
+module _ (m : BandedRates) (parts : List Ends) (s : IsSound m) (gone : m.alive < m.size) where
   -- the band of a row is the one that has it
   row_band : (l i : ℕ) → l < length m.bands → HasRow (band_at m l) i → band_of m i ≡ band_at m l
   row_band l i h r = ap (band_at m) (s.banded.own l i h r).1
@@ -40,12 +44,12 @@ module _ (m : BandedRates) (shares : List Ends) (s : IsSound m) (gone : m.alive 
       ∙ ap (λ b. band_entry b i j) (sym (row_band l i h r))
       ∙ sym (entry_is m i j)
 
-  pub can_update : m.alive ≤ length shares
-      → ((j : ℕ) → j < m.alive → ¬ IsKept m m.alive j → part_in shares j ≡ exact_ends 0)
-      → (l : ℕ) → l < length m.bands → CanUpdate m.alive m.scale m.flows shares (band_at m l)
+  pub can_update : m.alive ≤ length parts
+      → ((j : ℕ) → j < m.alive → ¬ IsKept m m.alive j → part_in parts j ≡ exact_ends 0)
+      → (l : ℕ) → l < length m.bands → CanUpdate (elimination_of m m.outflows parts) (band_at m l)
   can_update enough zeros l h = record {
     parts = enough;
-    flows = λ i r. omega (arith, (s.banded.own l i h r).0, s.flows);
+    outflows = λ i r. omega (arith, (s.banded.own l i h r).0, s.outflows);
     cells = s.banded.cells l h;
     caps = λ i r. s.caps i (s.banded.own l i h r).0;
     ordered = λ i j r k ne. subst (λ e. e.lo ≤ e.hi) (sym (row_entry l i j h r k))
@@ -63,13 +67,13 @@ module _ (m : BandedRates) (shares : List Ends) (s : IsSound m) (gone : m.alive 
       in_size j k = omega (arith, k.to, s.banded.columns l h)
 
   module _ (bs : List BandOfRows) (count : length bs ≡ length m.bands)
-      (done : (l : ℕ) → l < length m.bands → IsUpdated m.alive m.scale m.flows shares (band_at m l) (band_at (with_bands m bs) l)) where
+      (done : (l : ℕ) → l < length m.bands → IsUpdated (elimination_of m m.outflows parts) (band_at m l) (band_at (with_bands m bs) l)) where
     pub entries_raised : (i j : ℕ) → i < m.size
-        → entry (with_bands m bs) i j ≡ raised_by (part_in shares) (entry m) (cap m) m.alive i j
+        → entry (with_bands m bs) i j ≡ raised_entries (part_in parts) (entry m) (cap m) m.alive i j
     entries_raised i j l =
         entry_is (with_bands m bs) i j
         ∙ (done (slice_index m.levels i) (s.banded.level i l)).each i j (s.banded.row i l)
-        ∙ raised_by-alike (part_in shares) (band_entry (band_of m i)) (entry m) (cap m) m.alive i j
+        ∙ raised_entries-alike (part_in parts) (band_entry (band_of m i)) (entry m) (cap m) m.alive i j
         (sym (entry_is m i j)) (sym (entry_is m i m.alive))
 
     shapes : (l : ℕ) → HasSameShape (band_at m l) (band_at (with_bands m bs) l)
@@ -87,7 +91,7 @@ module _ (m : BandedRates) (shares : List Ends) (s : IsSound m) (gone : m.alive 
       size = refl;
       scale = refl;
       packed = refl;
-      flows = refl;
+      outflows = refl;
       levels = refl;
       count = count;
       shape = shapes;
@@ -97,7 +101,7 @@ module _ (m : BandedRates) (shares : List Ends) (s : IsSound m) (gone : m.alive 
     update_sound = sound_changed m bs s count shapes (λ l h. (done l h).count)
         (λ i j l k. elim (cases_eq i j) [
           | inl e ↦ subst (λ x. (entry m i j).lo ≤ x.lo)
-              (sym (entries_raised i j l ∙ raised_by-stays (part_in shares) (entry m) (cap m) m.alive i j (is_raised-itself m.alive i j e))) (omega arith)
+              (sym (entries_raised i j l ∙ raised_entries-stays (part_in parts) (entry m) (cap m) m.alive i j (is_raised-itself m.alive i j e))) (omega arith)
           | inr ne ↦ subst (λ x. (entry m i j).lo ≤ x.lo) (sym (entries_raised i j l)) (within i j l k ne).0
         ])
         record {
@@ -107,37 +111,37 @@ module _ (m : BandedRates) (shares : List Ends) (s : IsSound m) (gone : m.alive 
         }
       where
         within : (i j : ℕ) → i < m.size → j < m.size → i ≢ j
-            → ((entry m i j).lo ≤ (raised_by (part_in shares) (entry m) (cap m) m.alive i j).lo)
-            × ((raised_by (part_in shares) (entry m) (cap m) m.alive i j).hi ≤ cap m i)
-        within i j l k ne = raised_by-within (part_in shares) (entry m) (cap m) m.alive i j (s.within.ordered i j l k ne) (s.within.capped i j l k ne)
+            → ((entry m i j).lo ≤ (raised_entries (part_in parts) (entry m) (cap m) m.alive i j).lo)
+            × ((raised_entries (part_in parts) (entry m) (cap m) m.alive i j).hi ≤ cap m i)
+        within i j l k ne = raised_entries-within (part_in parts) (entry m) (cap m) m.alive i j (s.within.ordered i j l k ne) (s.within.capped i j l k ne)
 
 -- the same for outflows and bands as the code has them
-pub can_update_each : (m : BandedRates) (shares : List Ends) → IsSound m → m.alive < m.size → m.alive ≤ length shares
-    → ((j : ℕ) → j < m.alive → ¬ IsKept m m.alive j → part_in shares j ≡ exact_ends 0)
-    → (flows : List ℕ) (bands : List BandOfRows) → flows ≡ m.flows → bands ≡ m.bands
-    → (l : ℕ) → l < length bands → CanUpdate m.alive m.scale flows shares (get_or bands l no_band)
-can_update_each m shares s gone enough zeros flows bands flows_are bands_are =
-    subst (λ bs. (l : ℕ) → l < length bs → CanUpdate m.alive m.scale flows shares (get_or bs l no_band)) (sym bands_are)
-    (subst (λ fs. (l : ℕ) → l < length m.bands → CanUpdate m.alive m.scale fs shares (get_or m.bands l no_band)) (sym flows_are)
-    (can_update m shares s gone enough zeros))
+pub can_update_each : (m : BandedRates) (parts : List Ends) → IsSound m → m.alive < m.size → m.alive ≤ length parts
+    → ((j : ℕ) → j < m.alive → ¬ IsKept m m.alive j → part_in parts j ≡ exact_ends 0)
+    → (outflows : List ℕ) (bands : List BandOfRows) → outflows ≡ m.outflows → bands ≡ m.bands
+    → (l : ℕ) → l < length bands → CanUpdate (elimination_of m outflows parts) (get_or bands l no_band)
+can_update_each m parts s gone enough zeros outflows bands outflows_are bands_are =
+    subst (λ bs. (l : ℕ) → l < length bs → CanUpdate (elimination_of m outflows parts) (get_or bs l no_band)) (sym bands_are)
+    (subst (λ fs. (l : ℕ) → l < length m.bands → CanUpdate (elimination_of m fs parts) (get_or m.bands l no_band)) (sym outflows_are)
+    (can_update m parts s gone enough zeros))
 
-pub record IsEliminated (m : BandedRates) (shares : List Ends) (bands : List BandOfRows) : Type 0 where
+pub record IsEliminated (m : BandedRates) (parts : List Ends) (bands : List BandOfRows) : Type 0 where
   pub sound : IsSound (with_bands m bands)
   pub frame : HasSameFrame m (with_bands m bands)
   pub entries : (i j : ℕ) → i < m.size
-      → entry (with_bands m bands) i j ≡ raised_by (part_in shares) (entry m) (cap m) m.alive i j
+      → entry (with_bands m bands) i j ≡ raised_entries (part_in parts) (entry m) (cap m) m.alive i j
 
-pub update_all : (m : BandedRates) (shares : List Ends) → IsSound m → m.alive < m.size
-    → (flows : List ℕ) (bands new left : List BandOfRows) → flows ≡ m.flows → bands ≡ m.bands → left ≡ new
+pub update_all : (m : BandedRates) (parts : List Ends) → IsSound m → m.alive < m.size
+    → (outflows : List ℕ) (bands new left : List BandOfRows) → outflows ≡ m.outflows → bands ≡ m.bands → left ≡ new
     → length new ≡ length bands
-    → ((l : ℕ) → l < length bands → IsUpdated m.alive m.scale flows shares (get_or bands l no_band) (get_or new l no_band))
-    → IsEliminated m shares left
-update_all m shares s gone flows bands new left flows_are bands_are left_are count done =
+    → ((l : ℕ) → l < length bands → IsUpdated (elimination_of m outflows parts) (get_or bands l no_band) (get_or new l no_band))
+    → IsEliminated m parts left
+update_all m parts s gone outflows bands new left outflows_are bands_are left_are count done =
     let counted = count ∙ ap length bands_are in
-    let each = subst (λ bs. (l : ℕ) → l < length bs → IsUpdated m.alive m.scale m.flows shares (get_or bs l no_band) (get_or new l no_band)) bands_are
-    (subst (λ fs. (l : ℕ) → l < length bands → IsUpdated m.alive m.scale fs shares (get_or bands l no_band) (get_or new l no_band)) flows_are done) in
-    subst (IsEliminated m shares) (sym left_are) record {
-      sound = update_sound m shares s gone new counted each;
-      frame = same_frame m shares s gone new counted each;
-      entries = entries_raised m shares s gone new counted each;
+    let each = subst (λ bs. (l : ℕ) → l < length bs → IsUpdated (elimination_of m m.outflows parts) (get_or bs l no_band) (get_or new l no_band)) bands_are
+    (subst (λ fs. (l : ℕ) → l < length bands → IsUpdated (elimination_of m fs parts) (get_or bands l no_band) (get_or new l no_band)) outflows_are done) in
+    subst (IsEliminated m parts) (sym left_are) record {
+      sound = update_sound m parts s gone new counted each;
+      frame = same_frame m parts s gone new counted each;
+      entries = entries_raised m parts s gone new counted each;
     }

@@ -9,7 +9,7 @@ use Rattle.hyper_model.specs.Tables.{RateTable, between_states}
 use Rattle.busy_words.specs.Order.{IsInOrder, WordOrder, word_at}
 use Rattle.busy_words.proofs.Levels.{level_le}
 use Rattle.busy_words.proofs.Ordering.{levels_rise}
-use Rattle.rate_matrix.specs.Bands.{BandOfRows, BandedRates, HasColumn, HasSameShape, IsBanded, IsKept, IsMatrixOf, band_of, has_column, laid_out}
+use Rattle.rate_matrix.specs.Bands.{BandOfRows, BandedRates, HasColumn, HasSameShape, IsBanded, IsKept, IsMatrixOf, band_of, has_column, layout}
 use Rattle.rate_matrix.specs.LevelBands.{AreBandsOf}
 use Rattle.rate_matrix.specs.WordChains.{AreNeighbours, rank_level, word_rates}
 use Rattle.rate_matrix.proofs.BandLemmas.{has_column_true, shape_column}
@@ -28,11 +28,11 @@ module _ (p : PlanParts) (order : WordOrder) (h : IsInOrder (units p) order.word
   each : (i : ℕ) → i < length levels → slice_index levels i < units p + 1
   each i l = omega (arith, told i (omega (arith, count)), level_le (units p) (word_at order i))
 
-  pub words_banded : IsBanded (laid_out (words p) true levels bands)
+  pub words_banded : IsBanded (layout (words p) true levels bands)
   words_banded = levels_banded levels rises (units p + 1) bands are each (words p) count
 
   pub words_kept : (i j : ℕ) → i < words p → j < words p
-      → HasColumn (band_of (laid_out (words p) true levels bands) i) j ↔ AreNeighbours p order i j
+      → HasColumn (band_of (layout (words p) true levels bands) i) j ↔ AreNeighbours p order i j
   words_kept i j l k =
       let band = level_band_is levels rises (units p + 1) bands are each i (omega (arith, count)) in
       let kept = level_kept levels rises (slice_index levels i) j (omega (arith, count)) in
@@ -43,7 +43,7 @@ module _ (p : PlanParts) (order : WordOrder) (h : IsInOrder (units p) order.word
       )
 
   pub words_zeros : (i j : ℕ) → i < words p → j < words p
-      → has_column (band_of (laid_out (words p) true levels bands) i) j ≡ false → between_states (word_rates p order) i j ≡ 0
+      → has_column (band_of (layout (words p) true levels bands) i) j ≡ false → between_states (word_rates p order) i j ≡ 0
   words_zeros i j l k f = none (eqb i j) (elim (cases_lt (rank_level p order i + 1) (rank_level p order j)) [
     | inl far ↦ far_words p (word_at order i) (word_at order j) (inl far)
     | inr near ↦ elim (cases_lt (rank_level p order j + 1) (rank_level p order i)) [

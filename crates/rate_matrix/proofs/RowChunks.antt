@@ -5,10 +5,10 @@ use Rattle.std.proofs.lemmas.Bool.{cases_lt}
 use Rattle.std.proofs.lemmas.Nat.{div-mul-add}
 use Rattle.std.proofs.Math.Nat.{mul-le-mul_right, mul-pos, le_of_mul-le-mul_right, lt_of_mul-lt-mul_right}
 use Rattle.fixed_interval.specs.Ends.{Ends, exact_ends}
-use Rattle.rate_matrix.specs.Elimination.{raised_by}
+use Rattle.rate_matrix.specs.Elimination.{raised_entries}
 use Rattle.rate_matrix.specs.Bands.{BandOfRows, HasRow, HasColumn, place_in, cell_of}
-use Rattle.rate_matrix.specs.Rows.{AreAfter, CanEliminate, part_in, rows_from}
-use Rattle.rate_matrix.proofs.RowsOfBand.{raised_by-alike}
+use Rattle.rate_matrix.specs.Rows.{OneElimination, entries_past, row_cap, AreAfter, CanEliminate, part_in, rows_from}
+use Rattle.rate_matrix.proofs.RowsOfBand.{raised_entries-alike}
 
 -- a chunk begins with a row
 pub chunk_row : (c w start : ℕ) → 0 < c → 0 < w → start % (c * w) ≡ 0 → start ≡ start / w * w
@@ -47,8 +47,8 @@ chunk_rows c w s r n hw sr e = elim (cases_lt c (r - s)) [
         is ∙ ap (λ m. m * w) (sym quotient)
 
 -- a chunk of a band's rows as a band of its own
-module _ (state scale : ℕ) (outflows : List ℕ) (shares : List Ends) (b : BandOfRows) (c start : ℕ) (part : List Ends)
-    (can : CanEliminate state scale outflows shares b) (some : 0 < c)
+module _ (step : OneElimination) (b : BandOfRows) (c start : ℕ) (part : List Ends)
+    (can : CanEliminate step b) (some : 0 < c)
     (chunk : IsChunk b.cells (c * b.width) start part) where
   wide : 0 < b.width
   wide = omega (arith, can.column.from, can.column.to)
@@ -101,16 +101,16 @@ module _ (state scale : ℕ) (outflows : List ℕ) (shares : List Ends) (b : Ban
       chunk.elements (place_in sub i j) (exact_ends 0) (place_below i j h k)
       ∙ ap (λ x. get_or b.cells x (exact_ends 0)) (place_sub i j h)
 
-  pub can_chunk : CanEliminate state scale outflows shares sub
+  pub can_chunk : CanEliminate step sub
   can_chunk = record {
     before = omega (arith, can.before, ends_inside);
     column = record { from = can.column.from; to = can.column.to };
     parts = can.parts;
-    flows = omega (arith, can.flows, ends_inside);
+    outflows = omega (arith, can.outflows, ends_inside);
     cells = part_is;
     caps = λ i h. can.caps i (row_of i h);
     ordered = λ i j h k ne. subst (λ e. e.lo ≤ e.hi) (sym (cell_sub i j h (column_of j k))) (can.ordered i j (row_of i h) (column_of j k) ne);
-    capped = λ i j h k ne. subst (λ e. e.hi ≤ scale * slice_index outflows i) (sym (cell_sub i j h (column_of j k))) (can.capped i j (row_of i h) (column_of j k) ne);
+    capped = λ i j h k ne. subst (λ e. e.hi ≤ row_cap step i) (sym (cell_sub i j h (column_of j k))) (can.capped i j (row_of i h) (column_of j k) ne);
   }
 
   -- the chunk has the row of a place in it
@@ -128,27 +128,27 @@ module _ (state scale : ℕ) (outflows : List ℕ) (shares : List Ends) (b : Ban
   }
 
   pub cell_after : (i j offset : ℕ) (after : List Ends) (v : Ends) → HasRow b i → HasColumn b j → start + offset ≡ place_in b i j
-      → offset < length part → AreAfter state scale outflows shares sub after → get_or after offset (exact_ends 0) ≡ v
-      → (v ≡ raised_by (part_in shares) (cell_of b) (λ k. scale * slice_index outflows k) state i j) × (i ≢ j → v.lo ≤ v.hi)
+      → offset < length part → AreAfter step sub after → get_or after offset (exact_ends 0) ≡ v
+      → (v ≡ entries_past step (cell_of b) i j) × (i ≢ j → v.lo ≤ v.hi)
   cell_after i j offset after v h k e l done v_is =
       let row = row_here i j offset h k e l in
       let column : HasColumn sub j = record { from = k.from; to = k.to } in
       let place : place_in sub i j ≡ offset = omega (arith, place_sub i j row) in
       let here : cell_of (record sub { cells = after }) i j ≡ v = ap (λ x. get_or after x (exact_ends 0)) place ∙ v_is in (
         sym here ∙ done.each i j row column
-            ∙ raised_by-alike (part_in shares) (cell_of sub) (cell_of b) (λ x. scale * slice_index outflows x) state i j
-            (cell_sub i j row k) (cell_sub i state row can.column),
+            ∙ raised_entries-alike (part_in step.parts) (cell_of sub) (cell_of b) (row_cap step) step.state i j
+            (cell_sub i j row k) (cell_sub i step.state row can.column),
         λ ne. subst (λ x. x.lo ≤ x.hi) here (done.ordered i j row column ne),
       )
 
 -- all chunks together
-pub chunks_after : (state scale : ℕ) (outflows : List ℕ) (shares : List Ends) (b : BandOfRows) (new : List Ends)
-    → CanEliminate state scale outflows shares b → length new ≡ length b.cells
+pub chunks_after : (step : OneElimination) (b : BandOfRows) (new : List Ends)
+    → CanEliminate step b → length new ≡ length b.cells
     → ((i j : ℕ) → HasRow b i → HasColumn b j
-    → (cell_of (record b { cells = new }) i j ≡ raised_by (part_in shares) (cell_of b) (λ k. scale * slice_index outflows k) state i j)
+    → (cell_of (record b { cells = new }) i j ≡ entries_past step (cell_of b) i j)
     × (i ≢ j → (cell_of (record b { cells = new }) i j).lo ≤ (cell_of (record b { cells = new }) i j).hi))
-    → AreAfter state scale outflows shares b new
-chunks_after state scale outflows shares b new can count each = record {
+    → AreAfter step b new
+chunks_after step b new can count each = record {
   count = count;
   each = λ i j h k. (each i j h k).0;
   ordered = λ i j h k. (each i j h k).1;

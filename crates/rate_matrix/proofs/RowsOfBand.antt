@@ -1,53 +1,53 @@
 -- The rows of a part of a band, one after the other.
-use Rattle.std.proofs.Common.{◌≡◌, ◌≢◌, ℕ, ◌+◌, ◌-◌, ◌*◌, ◌<◌, ◌≤◌, List, length, take, drop, get_or, refl, sym, ap, subst, ◌∙◌, inl, inr, slice_index, arith}
+use Rattle.std.proofs.Common.{◌≡◌, ◌≢◌, ℕ, ◌+◌, ◌-◌, ◌*◌, ◌/◌, ◌<◌, ◌≤◌, List, length, take, drop, get_or, refl, sym, ap, subst, ◌∙◌, inl, inr, slice_index, arith}
 use Rattle.std.proofs.lemmas.Bool.{cases_lt, cases_eq}
 use Rattle.fixed_interval.specs.Ends.{Ends, exact_ends}
 use Rattle.std.specs.Prelude.{if◌then◌else◌}
 use Rattle.std.proofs.Math.Nat.{mul-le-mul_right}
-use Rattle.rate_matrix.specs.Elimination.{Entries, is_raised, raised, raised_by}
+use Rattle.rate_matrix.specs.Elimination.{Entries, is_raised, raised_entry, raised_entries}
 use Rattle.rate_matrix.specs.Bands.{BandOfRows, HasRow, HasColumn, place_in, cell_of}
-use Rattle.rate_matrix.specs.Rows.{AreAfter, CanEliminate, part_in, rows_from}
-use Rattle.rate_matrix.proofs.SlicePlaces.{slice_place, slice_length, put_below, put_inside, put_above, put_length}
+use Rattle.rate_matrix.specs.Rows.{OneElimination, entries_past, row_cap, AreAfter, CanEliminate, part_in, rows_from}
+use Rattle.rate_matrix.proofs.SlicePlaces.{length_taken, rows_taken, slice_place, slice_length, put_below, put_inside, put_above, put_length}
 use borrow.Rule.Slice.PartMut.{put_mid}
 
 -- the first r rows are updated
-pub record AreRowsUpdatedTo (state scale : ℕ) (outflows : List ℕ) (shares : List Ends) (b : BandOfRows) (new : List Ends) (r : ℕ) : Type 0 where
+pub record AreRowsUpdatedTo (step : OneElimination) (b : BandOfRows) (new : List Ends) (r : ℕ) : Type 0 where
   pub count : length new ≡ length b.cells
   pub done : (i j : ℕ) → HasRow b i → HasColumn b j → i < b.first + r
       → cell_of (record b { cells = new }) i j
-      ≡ raised_by (part_in shares) (cell_of b) (λ k. scale * slice_index outflows k) state i j
+      ≡ entries_past step (cell_of b) i j
   pub ordered : (i j : ℕ) → HasRow b i → HasColumn b j → i ≢ j
       → (cell_of (record b { cells = new }) i j).lo ≤ (cell_of (record b { cells = new }) i j).hi
   pub rest : (i j : ℕ) → HasRow b i → HasColumn b j → b.first + r ≤ i
       → cell_of (record b { cells = new }) i j ≡ cell_of b i j
 
-pub raised_by-alike : (parts : ℕ → Ends) (a b : Entries) (caps : ℕ → ℕ) (t i j : ℕ) → a i j ≡ b i j → a i t ≡ b i t
-    → raised_by parts a caps t i j ≡ raised_by parts b caps t i j
-unfolding raised_by
-raised_by-alike parts a b caps t i j e f =
-    ap (λ x. if is_raised t i j then raised x (a i t) (parts j) (caps i) else x) e
-    ∙ ap (λ x. if is_raised t i j then raised (b i j) x (parts j) (caps i) else b i j) f
+pub raised_entries-alike : (parts : ℕ → Ends) (a b : Entries) (caps : ℕ → ℕ) (t i j : ℕ) → a i j ≡ b i j → a i t ≡ b i t
+    → raised_entries parts a caps t i j ≡ raised_entries parts b caps t i j
+unfolding raised_entries
+raised_entries-alike parts a b caps t i j e f =
+    ap (λ x. if is_raised t i j then raised_entry x (a i t) (parts j) (caps i) else x) e
+    ∙ ap (λ x. if is_raised t i j then raised_entry (b i j) x (parts j) (caps i) else b i j) f
 
-pub rows_start : (state scale : ℕ) (outflows : List ℕ) (shares : List Ends) (b : BandOfRows)
-    → CanEliminate state scale outflows shares b → AreRowsUpdatedTo state scale outflows shares b b.cells 0
-rows_start state scale outflows shares b can = record {
+pub rows_start : (step : OneElimination) (b : BandOfRows)
+    → CanEliminate step b → AreRowsUpdatedTo step b b.cells 0
+rows_start step b can = record {
   count = refl;
   done = λ i j r k l. let from = r.from in absurd (omega arith);
   ordered = can.ordered;
   rest = λ i j r k l. refl;
 }
 
-pub rows_end : (state scale : ℕ) (outflows : List ℕ) (shares : List Ends) (b : BandOfRows) (new : List Ends)
-    → AreRowsUpdatedTo state scale outflows shares b new b.rows → AreAfter state scale outflows shares b new
-rows_end state scale outflows shares b new u = record {
+pub rows_end : (step : OneElimination) (b : BandOfRows) (new : List Ends)
+    → AreRowsUpdatedTo step b new b.rows → AreAfter step b new
+rows_end step b new u = record {
   count = u.count;
   each = λ i j r k. u.done i j r k r.to;
   ordered = u.ordered;
 }
 
 -- one row of a band as a band of its own: its cells are those from r * width on
-module _ (state scale : ℕ) (outflows : List ℕ) (shares : List Ends) (b : BandOfRows) (new row : List Ends) (r : ℕ)
-    (can : CanEliminate state scale outflows shares b) (u : AreRowsUpdatedTo state scale outflows shares b new r)
+module _ (step : OneElimination) (b : BandOfRows) (new row : List Ends) (r : ℕ)
+    (can : CanEliminate step b) (u : AreRowsUpdatedTo step b new r)
     (inside : r < b.rows) (len : length row ≡ b.width)
     (same : (k : ℕ) → k < b.width → get_or row k (exact_ends 0) ≡ get_or new (r * b.width + k) (exact_ends 0)) where
   abbrev one : BandOfRows
@@ -79,34 +79,34 @@ module _ (state scale : ℕ) (outflows : List ℕ) (shares : List Ends) (b : Ban
       cell_one i j e h
       ∙ u.rest i j (record { from = omega arith; to = omega arith }) h (omega arith)
 
-  pub can_row : CanEliminate state scale outflows shares (rows_from (b.first + r) 1 b.left (length row) row)
-  can_row = subst (λ w. CanEliminate state scale outflows shares (rows_from (b.first + r) 1 b.left w row)) (sym len) record {
+  pub can_row : CanEliminate step (rows_from (b.first + r) 1 b.left (length row) row)
+  can_row = subst (λ w. CanEliminate step (rows_from (b.first + r) 1 b.left w row)) (sym len) record {
     before = omega (arith, can.before);
     column = record { from = can.column.from; to = can.column.to };
     parts = can.parts;
-    flows = omega (arith, can.flows);
+    outflows = omega (arith, can.outflows);
     cells = omega (arith, len);
     caps = λ i h. can.caps i (row_of i h);
     ordered = λ i j h k ne. subst (λ e. e.lo ≤ e.hi) (sym (cell_one i j (row_is i h) (column_of j k))) (u.ordered i j (row_of i h) (column_of j k) ne);
-    capped = λ i j h k ne. subst (λ e. e.hi ≤ scale * slice_index outflows i) (sym (cell_old i j (row_is i h) (column_of j k))) (can.capped i j (row_of i h) (column_of j k) ne);
+    capped = λ i j h k ne. subst (λ e. e.hi ≤ row_cap step i) (sym (cell_old i j (row_is i h) (column_of j k))) (can.capped i j (row_of i h) (column_of j k) ne);
   }
 
   -- the list with the row put back
   pub rows_more : (after more : List Ends)
-      → AreAfter state scale outflows shares (rows_from (b.first + r) 1 b.left (length row) row) after
+      → AreAfter step (rows_from (b.first + r) 1 b.left (length row) row) after
       → length more ≡ length new
       → ((k : ℕ) → k < b.width → get_or more (r * b.width + k) (exact_ends 0) ≡ get_or after k (exact_ends 0))
       → ((k : ℕ) → k < r * b.width → get_or more k (exact_ends 0) ≡ get_or new k (exact_ends 0))
       → ((k : ℕ) → r * b.width + b.width ≤ k → get_or more k (exact_ends 0) ≡ get_or new k (exact_ends 0))
-      → AreRowsUpdatedTo state scale outflows shares b more (r + 1)
+      → AreRowsUpdatedTo step b more (r + 1)
   rows_more after more done count here below above = record {
     count = count ∙ u.count;
     done = λ i j h k l. elim (cases_eq i (b.first + r)) [
       | inl e ↦
           cell_more i j e k
           ∙ a.each i j (one_row i e) (one_column j k)
-          ∙ raised_by-alike (part_in shares) (cell_of one) (cell_of b) (λ x. scale * slice_index outflows x) state i j
-          (cell_old i j e k) (cell_old i state e can.column)
+          ∙ raised_entries-alike (part_in step.parts) (cell_of one) (cell_of b) (row_cap step) step.state i j
+          (cell_old i j e k) (cell_old i step.state e can.column)
       | inr ne ↦ cell_below i j h k (omega (arith, ne, h.from)) ∙ u.done i j h k (omega (arith, ne))
     ];
     ordered = λ i j h k apart. elim (cases_eq i (b.first + r)) [
@@ -119,8 +119,8 @@ module _ (state scale : ℕ) (outflows : List ℕ) (shares : List Ends) (b : Ban
     rest = λ i j h k l. cell_above i j h k (omega arith) ∙ u.rest i j h k (omega arith);
   }
     where
-      a : AreAfter state scale outflows shares one after
-      a = subst (λ w. AreAfter state scale outflows shares (rows_from (b.first + r) 1 b.left w row) after) len done
+      a : AreAfter step one after
+      a = subst (λ w. AreAfter step (rows_from (b.first + r) 1 b.left w row) after) len done
 
       one_row : (i : ℕ) → i ≡ b.first + r → HasRow one i
       one_row i e = record { from = omega arith; to = omega arith }
@@ -145,8 +145,8 @@ module _ (state scale : ℕ) (outflows : List ℕ) (shares : List Ends) (b : Ban
           above (place_in b i j) (omega (arith, behind))
 
 -- the same for a row that is a slice of the cells
-module _ (state scale : ℕ) (outflows : List ℕ) (shares : List Ends) (b : BandOfRows) (new : List Ends) (r : ℕ)
-    (can : CanEliminate state scale outflows shares b) (u : AreRowsUpdatedTo state scale outflows shares b new r)
+module _ (step : OneElimination) (b : BandOfRows) (new : List Ends) (r : ℕ)
+    (can : CanEliminate step b) (u : AreRowsUpdatedTo step b new r)
     (inside : r < b.rows) where
   row_fits : r * b.width + b.width ≤ length new
   row_fits =
@@ -161,30 +161,48 @@ module _ (state scale : ℕ) (outflows : List ℕ) (shares : List Ends) (b : Ban
   slice_same k l = slice_place new (r * b.width) b.width k (exact_ends 0) l
 
   pub can_slice : (n : ℕ) → n ≡ b.width
-      → CanEliminate state scale outflows shares
+      → CanEliminate step
       (rows_from (b.first + r) 1 b.left (length (take n (drop (r * b.width) new))) (take n (drop (r * b.width) new)))
   can_slice n e =
-      subst (λ k. CanEliminate state scale outflows shares
+      subst (λ k. CanEliminate step
       (rows_from (b.first + r) 1 b.left (length (take k (drop (r * b.width) new))) (take k (drop (r * b.width) new)))) (sym e)
-      (can_row state scale outflows shares b new (take b.width (drop (r * b.width) new)) r can u inside slice_len slice_same)
+      (can_row step b new (take b.width (drop (r * b.width) new)) r can u inside slice_len slice_same)
 
   pub slice_more : (n : ℕ) (after : List Ends) → n ≡ b.width
-      → AreAfter state scale outflows shares
+      → AreAfter step
       (rows_from (b.first + r) 1 b.left (length (take n (drop (r * b.width) new))) (take n (drop (r * b.width) new))) after
-      → AreRowsUpdatedTo state scale outflows shares b (put_mid (r * b.width) n new after) (r + 1)
+      → AreRowsUpdatedTo step b (put_mid (r * b.width) n new after) (r + 1)
   slice_more n after e done =
-      subst (λ k. AreRowsUpdatedTo state scale outflows shares b (put_mid (r * b.width) k new after) (r + 1)) (sym e)
-      (rows_more state scale outflows shares b new (take b.width (drop (r * b.width) new)) r can u inside slice_len slice_same
+      subst (λ k. AreRowsUpdatedTo step b (put_mid (r * b.width) k new after) (r + 1)) (sym e)
+      (rows_more step b new (take b.width (drop (r * b.width) new)) r can u inside slice_len slice_same
       after (put_mid (r * b.width) b.width new after) here
       (put_length new after (r * b.width) b.width len row_fits)
       (λ k l. put_inside new after (r * b.width) b.width k (exact_ends 0) l len (omega (arith, row_fits)))
       (λ k l. put_below new after (r * b.width) b.width k (exact_ends 0) l (omega (arith, row_fits)))
       (λ k l. put_above new after (r * b.width) b.width k (exact_ends 0) l len row_fits))
     where
-      here : AreAfter state scale outflows shares
+      here : AreAfter step
           (rows_from (b.first + r) 1 b.left (length (take b.width (drop (r * b.width) new))) (take b.width (drop (r * b.width) new))) after
-      here = subst (λ k. AreAfter state scale outflows shares
+      here = subst (λ k. AreAfter step
           (rows_from (b.first + r) 1 b.left (length (take k (drop (r * b.width) new))) (take k (drop (r * b.width) new))) after) e done
 
       len : length after ≡ b.width
       len = here.count ∙ slice_len
+
+-- the first rows of some cells, as many as their length tells
+module _ (step : OneElimination) (first rows left width : ℕ) (cells : List Ends) (inside : rows * width ≤ length cells)
+    (can : CanEliminate step (rows_from first rows left width (take (rows * width) cells))) where
+  counted : length (take (rows * width) cells) / width ≡ rows
+  counted = rows_taken cells rows width (omega (arith, can.column.from, can.column.to)) inside
+
+  pub can_first_rows : CanEliminate step
+      (rows_from first (length (take (rows * width) cells) / width) left width (take (rows * width) cells))
+  can_first_rows = subst (λ r. CanEliminate step (rows_from first r left width (take (rows * width) cells))) (sym counted) can
+
+  pub first_rows_after : (new : List Ends)
+      → AreAfter step (rows_from first (length (take (rows * width) cells) / width) left width (take (rows * width) cells)) new
+      → (length new ≡ rows * width) × AreAfter step (rows_from first rows left width (take (rows * width) cells)) new
+  first_rows_after new done = (
+    done.count ∙ length_taken cells (rows * width) inside,
+    subst (λ r. AreAfter step (rows_from first r left width (take (rows * width) cells)) new) counted done,
+  )

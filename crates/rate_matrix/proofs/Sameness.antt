@@ -1,56 +1,58 @@
 -- Entries that agree between different states have the same sums, parts and eliminations.
 use Rattle.std.proofs.Common.{◌≡◌, ℕ, ◌*◌, ◌^◌, ◌<◌, sym, ap, ◌∙◌, inl, inr, arith}
+use Rattle.std.specs.Prelude.{◌==◌, not}
 use Rattle.std.proofs.lemmas.Bool.{cases_lt}
 use Rattle.fixed_interval.specs.Ends.{Ends, between, share_ends}
 use Rattle.hyper_model.proofs.Sums.{sum-same}
-use Rattle.rate_matrix.specs.Elimination.{AreSoundEntries, Entries, HoldsAll, HoldsAt, SameEntries, eliminated, part_to, raised, total_below, without_ends}
-use Rattle.rate_matrix.proofs.Raising.{eliminated-before, eliminated-from, eliminated-to}
+use Rattle.rate_matrix.specs.Elimination.{AreSoundEntries, Entries, HoldsAll, HoldsAt, SameEntries, entries_after, part_to, raised_entry, without_ends}
+use Rattle.busy_words.specs.Algebra.{total_ends, where_ends}
+use Rattle.rate_matrix.proofs.Totals.{between-same}
+use Rattle.rate_matrix.proofs.Raising.{entries_after-before, entries_after-from, entries_after-to}
 
-between-same : (a c b d : ℕ) → a ≡ c → b ≡ d → between a b ≡ between c d
-between-same a c b d low high = cc
-
-pub total_below-same : (n : ℕ) (row other : ℕ → Ends) → ((k : ℕ) → k < n → row k ≡ other k)
-    → total_below row n ≡ total_below other n
-total_below-same n row other same =
+pub total_ends-same : (n : ℕ) (row other : ℕ → Ends) → ((k : ℕ) → k < n → row k ≡ other k)
+    → total_ends n row ≡ total_ends n other
+total_ends-same n row other same =
     between-same _ _ _ _
     (sum-same n (λ k. (row k).lo) (λ k. (other k).lo) (λ k l. ap (λ (e : Ends). e.lo) (same k l)))
     (sum-same n (λ k. (row k).hi) (λ k. (other k).hi) (λ k l. ap (λ (e : Ends). e.hi) (same k l)))
 
 -- what leaves state m for the states before it
 pub leaving-same : (size : ℕ) (a b : Entries) → SameEntries size a b → (m : ℕ) → m < size
-    → total_below (a m) m ≡ total_below (b m) m
+    → total_ends m (a m) ≡ total_ends m (b m)
 leaving-same size a b same m inside =
-    total_below-same m (a m) (b m) (λ k l. same.same m k inside (omega arith) (omega arith))
+    total_ends-same m (a m) (b m) (λ k l. same.same m k inside (omega arith) (omega arith))
 
 pub part_to-same : (size : ℕ) (a b : Entries) → SameEntries size a b → (t j : ℕ) → t < size → j < t
     → part_to a t j ≡ part_to b t j
 unfolding part_to
 part_to-same size a b same t j inside before =
-    ap (λ e. share_ends (2 ^ 62) e (without_ends (total_below (a t) t) e)) (same.same t j inside (omega arith) (omega arith))
-    ∙ ap (λ e. share_ends (2 ^ 62) (b t j) (without_ends e (b t j))) (leaving-same size a b same t inside)
+    ap (λ e. share_ends (2 ^ 62) e (without_ends t j (a t))) (same.same t j inside (omega arith) (omega arith))
+    ∙ ap (λ e. share_ends (2 ^ 62) (b t j) e)
+    (total_ends-same t (λ k. where_ends (not (k == j)) (a t k)) (λ k. where_ends (not (k == j)) (b t k))
+    (λ k l. ap (λ e. where_ends (not (k == j)) e) (same.same t k inside (omega arith) (omega arith))))
 
-raised-same : (old into part old' into' part' : Ends) (cap cap' : ℕ) → old ≡ old' → into ≡ into' → part ≡ part'
-    → cap ≡ cap' → raised old into part cap ≡ raised old' into' part' cap'
-raised-same old into part old' into' part' cap cap' first second third fourth = cc
+raised_entry-same : (old into part old' into' part' : Ends) (cap cap' : ℕ) → old ≡ old' → into ≡ into' → part ≡ part'
+    → cap ≡ cap' → raised_entry old into part cap ≡ raised_entry old' into' part' cap'
+raised_entry-same old into part old' into' part' cap cap' first second third fourth = cc
 
-pub eliminated-same : (size : ℕ) (a b : Entries) (caps limits : ℕ → ℕ) (t : ℕ) → t < size → SameEntries size a b
-    → ((i : ℕ) → i < size → caps i ≡ limits i) → SameEntries size (eliminated a caps t) (eliminated b limits t)
-eliminated-same size a b caps limits t alive same bounds = record {
+pub entries_after-same : (size : ℕ) (a b : Entries) (caps limits : ℕ → ℕ) (t : ℕ) → t < size → SameEntries size a b
+    → ((i : ℕ) → i < size → caps i ≡ limits i) → SameEntries size (entries_after a caps t) (entries_after b limits t)
+entries_after-same size a b caps limits t alive same bounds = record {
   same = λ i j row column apart. elim (cases_lt i t) [
     | inl from ↦ elim (cases_lt j t) [
       | inl to ↦
-          eliminated-before a caps t i j from to apart
-          ∙ raised-same (a i j) (a i t) (part_to a t j) (b i j) (b i t) (part_to b t j) (caps i) (limits i)
+          entries_after-before a caps t i j from to apart
+          ∙ raised_entry-same (a i j) (a i t) (part_to a t j) (b i j) (b i t) (part_to b t j) (caps i) (limits i)
           (same.same i j row column apart) (same.same i t row alive (omega arith))
           (part_to-same size a b same t j alive to) (bounds i row)
-          ∙ sym (eliminated-before b limits t i j from to apart)
+          ∙ sym (entries_after-before b limits t i j from to apart)
       | inr after ↦
-          eliminated-to a caps t i j (omega arith) ∙ same.same i j row column apart
-          ∙ sym (eliminated-to b limits t i j (omega arith))
+          entries_after-to a caps t i j (omega arith) ∙ same.same i j row column apart
+          ∙ sym (entries_after-to b limits t i j (omega arith))
     ]
     | inr after ↦
-        eliminated-from a caps t i j (omega arith) ∙ same.same i j row column apart
-        ∙ sym (eliminated-from b limits t i j (omega arith))
+        entries_after-from a caps t i j (omega arith) ∙ same.same i j row column apart
+        ∙ sym (entries_after-from b limits t i j (omega arith))
   ];
 }
 

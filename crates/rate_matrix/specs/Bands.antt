@@ -19,7 +19,7 @@ pub record BandedRates : Type 0 where
   pub alive : ℕ
   pub scale : ℕ
   pub packed : Bool
-  pub flows : List ℕ
+  pub outflows : List ℕ
   pub levels : List ℕ
   pub bands : List BandOfRows
 
@@ -66,7 +66,7 @@ IsKept m i j = HasColumn (band_of m i) j
 
 -- the sum of the rates out of state i
 abbrev pub outflow : BandedRates → ℕ → ℕ
-outflow m i = slice_index m.flows i
+outflow m i = slice_index m.outflows i
 
 -- no entry of row i goes past this: the outflow in the scale of the entries
 abbrev pub cap : BandedRates → ℕ → ℕ
@@ -84,7 +84,7 @@ pub record HasSameFrame (old new : BandedRates) : Type 0 where
   pub size : new.size ≡ old.size
   pub scale : new.scale ≡ old.scale
   pub packed : new.packed ≡ old.packed
-  pub flows : new.flows ≡ old.flows
+  pub outflows : new.outflows ≡ old.outflows
   pub levels : new.levels ≡ old.levels
   pub count : length new.bands ≡ length old.bands
   pub shape : (l : ℕ) → HasSameShape (band_at old l) (band_at new l)
@@ -101,20 +101,20 @@ pub record IsBanded (m : BandedRates) : Type 0 where
   pub whole : m.packed ≡ false → (i j : ℕ) → i < m.size → j < m.size → IsKept m i j
 
 -- a matrix of which no state is eliminated
-abbrev pub parts_matrix : ℕ → ℕ → Bool → List ℕ → List ℕ → List BandOfRows → BandedRates
-parts_matrix size scale packed flows levels bands = record {
+abbrev pub matrix_of_bands : ℕ → ℕ → Bool → List ℕ → List ℕ → List BandOfRows → BandedRates
+matrix_of_bands size scale packed outflows levels bands = record {
   size = size;
   alive = size;
   scale = scale;
   packed = packed;
-  flows = flows;
+  outflows = outflows;
   levels = levels;
   bands = bands;
 }
 
 -- rows and columns for so many states
-abbrev pub laid_out : ℕ → Bool → List ℕ → List BandOfRows → BandedRates
-laid_out size packed levels bands = parts_matrix size 0 packed [] levels bands
+abbrev pub layout : ℕ → Bool → List ℕ → List BandOfRows → BandedRates
+layout size packed levels bands = matrix_of_bands size 0 packed [] levels bands
 
 -- The matrix of a chain before any elimination: the rates from each state to each other, times one scale. The
 -- scale is the greatest in which no state's rates sum to more than 2 ^ 62.
@@ -132,7 +132,7 @@ pub record IsSound (m : BandedRates) : Type 0 where
   pub alive : m.alive ≤ m.size
   pub some_alive : 1 ≤ m.alive
   pub scale : 2 ^ 26 ≤ m.scale
-  pub flows : length m.flows ≡ m.size
+  pub outflows : length m.outflows ≡ m.size
   pub caps : (i : ℕ) → i < m.size → cap m i ≤ 2 ^ 62
   pub banded : IsBanded m
   pub within : IsWithin m.size (cap m) (entry m)

@@ -1,7 +1,7 @@
--- States in levels: where no entry leads past the next level, none ever will.
+-- States in levels: if no entry leads past the next level, none ever will.
 use Rattle.std.specs.Prelude.{◌≡◌, ℕ, ◌+◌, ◌<◌, ◌≤◌, ◌⊎◌}
 use Rattle.fixed_interval.specs.Ends.{exact_ends}
-use Rattle.rate_matrix.specs.Elimination.{Entries, left_after}
+use Rattle.rate_matrix.specs.Elimination.{Entries, entries_left_after}
 
 -- the levels of two states differ by more than one
 pub record AreFarApart (level : ℕ → ℕ) (i j : ℕ) : Type 0 where
@@ -20,4 +20,4 @@ abbrev pub ZerosStay : Type 0
 ZerosStay =
     (size : ℕ) (level : ℕ → ℕ) (entries : Entries) (caps : ℕ → ℕ)
     → IsByLevels size level → IsZeroFarApart size level entries
-    → (k : ℕ) → k < size → IsZeroFarApart size level (left_after entries caps size k)
+    → (k : ℕ) → k < size → IsZeroFarApart size level (entries_left_after entries caps size k)

@@ -5,7 +5,8 @@ use Rattle.std.specs.Int.{div_ceil}
 use Rattle.fixed_interval.specs.Ends.{Ends, between, exact_ends}
 use Rattle.fixed_interval.specs.WeightList.{PushesShifted, ends_at}
 use Rattle.hyper_model.specs.Sums.{sum_below}
-use Rattle.rate_matrix.specs.Elimination.{Entries, total_below}
+use Rattle.rate_matrix.specs.Elimination.{Entries}
+use Rattle.busy_words.specs.Algebra.{total_ends}
 
 -- what flows into state m from the states before it
 abbrev pub inflow_ends : Entries → List Ends → ℕ → Ends
@@ -18,8 +19,8 @@ inflow_ends entries weights m =
 abbrev pub weight_of : Entries → List Ends → ℕ → Ends
 weight_of entries weights m =
     between
-    ((inflow_ends entries weights m).lo / (total_below (entries m) m).hi)
-    (div_ceil (inflow_ends entries weights m).hi (total_below (entries m) m).lo)
+    ((inflow_ends entries weights m).lo / (total_ends m (entries m)).hi)
+    (div_ceil (inflow_ends entries weights m).hi (total_ends m (entries m)).lo)
 
 -- the weights of the first n states: the first state has 2 ^ 52, and each next one is pushed with its shift
 unfoldable pub AreWeightsOf : Entries → ℕ → List Ends → Type 0

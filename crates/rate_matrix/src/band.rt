@@ -3,7 +3,7 @@ ghost use Rattle.fixed_interval.specs.Ends.{exact_ends};
 ghost use Rattle.hyper_model.specs.Tables.{between_states};
 ghost use Rattle.rate_matrix.specs.Bands.{HasColumn, HasRow, HasSameShape, band_entry, cell_of, has_column, place_in};
 ghost use Rattle.rate_matrix.specs.Elimination.{outflow_of};
-ghost use Rattle.rate_matrix.specs.Rows.{CanUpdate, IsUpdated};
+ghost use Rattle.rate_matrix.specs.Rows.{CanUpdate, IsUpdated, rows_before};
 
 use crate::chain::Chain;
 use crate::gate::Gate;
@@ -68,7 +68,7 @@ impl Band {
         self.left <= j && j < self.left + self.width
     }
 
-    /// The entry of row i and column j, which is 0 where the column is not kept.
+    /// The entry of row i and column j, which is 0 if the column is not kept.
     #[tactic(auto, unfolding(crate::specs::Bands::band_entry))]
     pub(crate) fn entry(&self, i: usize, j: usize) -> Iv
         requires { HasRow self.now i }
@@ -126,14 +126,11 @@ impl Band {
         elimination: &Elimination<'_, G>,
     )
         requires workers { 1 ≤ workers }
-        requires state { elimination.now.state ≤ 4096 }
-        requires band { CanUpdate elimination.now.state elimination.now.scale elimination.now.flows.now
-            elimination.now.parts.now self.old }
-        ensures { IsUpdated elimination.now.state elimination.now.scale elimination.now.flows.now
-            elimination.now.parts.now self.old self.new }
+        requires band { CanUpdate elimination.now self.old }
+        ensures { IsUpdated elimination.now self.old self.new }
     {
-        let rows = self.rows.min(elimination.state.saturating_sub(self.first));
-        if rows == 0 || !self.has_column(elimination.state) {
+        let rows = self.rows_before(elimination.state());
+        if rows == 0 {
             return;
         }
         elimination.update_first(
@@ -149,17 +146,25 @@ impl Band {
 
     /// Changes the rows of the states before the one that is eliminated, without threads.
     pub(crate) fn update_alone<G: Gate>(&mut self, elimination: &Elimination<'_, G>)
-        requires state { elimination.now.state ≤ 4096 }
-        requires band { CanUpdate elimination.now.state elimination.now.scale elimination.now.flows.now
-            elimination.now.parts.now self.old }
-        ensures { IsUpdated elimination.now.state elimination.now.scale elimination.now.flows.now
-            elimination.now.parts.now self.old self.new }
+        requires band { CanUpdate elimination.now self.old }
+        ensures { IsUpdated elimination.now self.old self.new }
     {
-        let rows = self.rows.min(elimination.state.saturating_sub(self.first));
-        if rows == 0 || !self.has_column(elimination.state) {
+        let rows = self.rows_before(elimination.state());
+        if rows == 0 {
             return;
         }
         elimination.update_first_alone(&mut self.cells, self.first, rows, self.left, self.width);
+    }
+
+    // How many rows are those of states before this one, if the band keeps its column, else 0.
+    fn rows_before(&self, state: usize) -> usize
+        ensures { result ≡ rows_before self.now state }
+    {
+        if self.has_column(state) {
+            self.rows.min(state.saturating_sub(self.first))
+        } else {
+            0
+        }
     }
 }
 

@@ -1,5 +1,5 @@
 ghost use Rattle.std.specs.Prelude.{◌≡◌, ◌^◌, ◌≤◌};
-ghost use Rattle.rate_matrix.specs.Elimination.{raised};
+ghost use Rattle.rate_matrix.specs.Elimination.{raised_entry};
 
 use fixed_interval::Iv;
 
@@ -12,7 +12,7 @@ pub trait Gate {
     /// eliminated, with neither end above `cap`. `place` is that of the matrix among others.
     fn cell(&self, place: usize, row: usize, old: Iv, into: Iv, part: Iv, cap: u64) -> Iv
         requires { cap ≤ 2 ^ 62 }
-        ensures { result ≡ raised old into part cap };
+        ensures { result ≡ raised_entry old into part cap };
 }
 
 /// The gate that computes the entry and does nothing else.

@@ -3,14 +3,12 @@
 
 mod band;
 mod chain;
-mod exact;
+mod dense;
 mod gate;
 mod matrix;
 mod packed;
 mod rows;
 mod sharing;
-#[cfg(test)]
-mod tests;
 mod update;
 mod words;
 

@@ -1,7 +1,7 @@
 ghost use Rattle.std.specs.Prelude.{◌≡◌, ◌≢◌, ℕ, ◌-◌, ◌*◌, ◌^◌, ◌<◌, ◌≤◌, true};
 ghost use Rattle.fixed_interval.specs.Ends.{Ends};
-ghost use Rattle.rate_matrix.specs.Elimination.{total_below};
-ghost use Rattle.rate_matrix.specs.Bands.{HasSameFrame, IsKept, IsSound, band_of, cap, entry, has_column, outflow, parts_matrix};
+ghost use Rattle.busy_words.specs.Algebra.{total_ends};
+ghost use Rattle.rate_matrix.specs.Bands.{HasSameFrame, IsKept, IsSound, band_of, cap, entry, has_column, outflow, matrix_of_bands};
 
 use crate::band::Band;
 use fixed_interval::{Iv, Wide};
@@ -20,7 +20,7 @@ pub struct RateMatrix {
     pub(crate) alive: usize,
     pub(crate) scale: u64,
     packed: bool,
-    pub(crate) flows: Vec<u64>,
+    pub(crate) outflows: Vec<u64>,
     levels: Vec<usize>,
     pub(crate) bands: Vec<Band>,
 }
@@ -30,30 +30,30 @@ impl Model for RateMatrix {
 
     ghost Value = { BandedRates };
 
-    ghost view = { λ a. record { size = a.size; alive = a.alive; scale = a.scale; packed = a.packed; flows = a.flows.items; levels = a.levels.items; bands = a.bands.items } };
+    ghost view = { λ a. record { size = a.size; alive = a.alive; scale = a.scale; packed = a.packed; outflows = a.outflows.items; levels = a.levels.items; bands = a.bands.items } };
 
-    ghost invariant = { λ a. IsSound (record { size = a.size; alive = a.alive; scale = a.scale; packed = a.packed; flows = a.flows.items; levels = a.levels.items; bands = a.bands.items }) };
+    ghost invariant = { λ a. IsSound (record { size = a.size; alive = a.alive; scale = a.scale; packed = a.packed; outflows = a.outflows.items; levels = a.levels.items; bands = a.bands.items }) };
 }
 
 impl RateMatrix {
     /// The matrix with these outflows and bands, of which no state is eliminated.
-    pub(crate) fn of_parts(
+    pub(crate) fn of_bands(
         size: usize,
         scale: u64,
         packed: bool,
-        flows: Vec<u64>,
+        outflows: Vec<u64>,
         levels: Vec<usize>,
         bands: Vec<Band>,
     ) -> RateMatrix
-        requires { IsSound (parts_matrix size scale packed flows.items levels.items bands.items) }
-        ensures { result ≡ parts_matrix size scale packed flows.items levels.items bands.items }
+        requires { IsSound (matrix_of_bands size scale packed outflows.items levels.items bands.items) }
+        ensures { result ≡ matrix_of_bands size scale packed outflows.items levels.items bands.items }
     {
         RateMatrix {
             size,
             alive: size,
             scale,
             packed,
-            flows,
+            outflows,
             levels,
             bands,
         }
@@ -109,7 +109,7 @@ impl RateMatrix {
         ensures outflow { result ≡ outflow self.now i }
         ensures most { cap self.now i ≤ 2 ^ 62 }
     {
-        self.flows[i]
+        self.outflows[i]
     }
 
     /// The entry from state i to state j.
@@ -128,7 +128,7 @@ impl RateMatrix {
     /// Its low end is at least 2^26, but for the first state, which nothing leaves so.
     pub fn total_leaving(&self, state: usize) -> Wide
         requires { state < self.now.size }
-        ensures sum { result ≡ total_below (entry self.now state) state }
+        ensures sum { result ≡ total_ends state (entry self.now state) }
         ensures least { 0 < state → 2 ^ 26 ≤ result.lo }
         ensures ordered { result.lo ≤ result.hi }
         ensures in_range { result.hi ≤ state * 2 ^ 62 }

@@ -27,7 +27,7 @@ impl RateMatrix {
         let _units = chain.order.units();
         let levels = levels_of(alloc, chain)?;
         let bands = bands_of(alloc, &levels, chain.plan.units())?;
-        RateMatrix::exact(alloc, chain, true, levels, bands)
+        RateMatrix::of_chain(alloc, chain, true, levels, bands)
     }
 }
 

@@ -1,7 +1,7 @@
 ghost use Rattle.std.specs.Prelude.{◌≡◌, ℕ, ◌<◌, ◌≤◌, true, length, slice_index_or};
 ghost use Rattle.fixed_interval.specs.Ends.{exact_ends};
 ghost use Rattle.rate_matrix.specs.Bands.{HasSameFrame, IsKept, cap, entry, no_band};
-ghost use Rattle.rate_matrix.specs.Elimination.{raised_by};
+ghost use Rattle.rate_matrix.specs.Elimination.{raised_entries};
 ghost use Rattle.rate_matrix.specs.Rows.{CanUpdate, IsUpdated, part_in};
 
 use crate::band::Band;
@@ -16,7 +16,7 @@ impl RateMatrix {
     /// part `parts[j]` of the entry from state i to that state is added to the entry from i to j.
     ///
     /// The state is the first that is not alive, and `parts[j]` is what of its way out goes to state j. Each
-    /// new value is the answer of `gate.cell`, which is not called where the part or the entry is 0, since
+    /// new value is the answer of `gate.cell`, which is not called if the part or the entry is 0, since
     /// nothing changes there. The rows of each level are cut into as many chunks as there are workers, of whole
     /// rows, which are worked on at the same time; one worker starts no thread.
     pub fn update_rows<R: Threads + Sync, G: Gate + Sync>(
@@ -37,12 +37,12 @@ impl RateMatrix {
         ensures frame { HasSameFrame self.old self.new }
         ensures alive { self.new.alive ≡ self.old.alive }
         ensures entries { (i j : ℕ) → i < self.old.size → j < self.old.size → entry self.new i j
-            ≡ raised_by (part_in parts.now) (entry self.old) (cap self.old) self.old.alive i j }
+            ≡ raised_entries (part_in parts.now) (entry self.old) (cap self.old) self.old.alive i j }
     {
         let elimination = Elimination {
             state: self.alive,
             scale: self.scale,
-            flows: &self.flows,
+            outflows: &self.outflows,
             parts,
             gate,
             place,
@@ -60,15 +60,14 @@ impl RateMatrix {
         ensures frame { HasSameFrame self.old self.new }
         ensures alive { self.new.alive ≡ self.old.alive }
         ensures entries { (i j : ℕ) → i < self.old.size → j < self.old.size → entry self.new i j
-            ≡ raised_by (part_in parts.now) (entry self.old) (cap self.old) self.old.alive i j }
+            ≡ raised_entries (part_in parts.now) (entry self.old) (cap self.old) self.old.alive i j }
     {
-        let gate = OpenGate;
         let elimination = Elimination {
             state: self.alive,
             scale: self.scale,
-            flows: &self.flows,
+            outflows: &self.outflows,
             parts,
-            gate: &gate,
+            gate: &OpenGate,
             place: 0,
         };
         update_bands_alone(&elimination, &mut self.bands);
@@ -83,11 +82,9 @@ pub(crate) fn update_bands<R: Threads + Sync, G: Gate + Sync>(
     bands: &mut [Band],
 )
     requires workers { 1 ≤ workers }
-    requires state { elimination.now.state ≤ 4096 }
-    requires bands { (l : ℕ) → l < length bands.old → CanUpdate elimination.now.state elimination.now.scale
-        elimination.now.flows.now elimination.now.parts.now (slice_index_or bands.old l no_band) }
-    ensures { (l : ℕ) → l < length bands.old → IsUpdated elimination.now.state elimination.now.scale
-        elimination.now.flows.now elimination.now.parts.now (slice_index_or bands.old l no_band) (slice_index_or bands.new l no_band) }
+    requires bands { (l : ℕ) → l < length bands.old → CanUpdate elimination.now (slice_index_or bands.old l no_band) }
+    ensures { (l : ℕ) → l < length bands.old
+        → IsUpdated elimination.now (slice_index_or bands.old l no_band) (slice_index_or bands.new l no_band) }
 {
     for level in 0..bands.len() {
         bands[level].update(rt, workers, elimination);
@@ -96,11 +93,9 @@ pub(crate) fn update_bands<R: Threads + Sync, G: Gate + Sync>(
 
 /// Changes the rows of every band, one after the other and without threads.
 pub(crate) fn update_bands_alone<G: Gate>(elimination: &Elimination<'_, G>, bands: &mut [Band])
-    requires state { elimination.now.state ≤ 4096 }
-    requires bands { (l : ℕ) → l < length bands.old → CanUpdate elimination.now.state elimination.now.scale
-        elimination.now.flows.now elimination.now.parts.now (slice_index_or bands.old l no_band) }
-    ensures { (l : ℕ) → l < length bands.old → IsUpdated elimination.now.state elimination.now.scale
-        elimination.now.flows.now elimination.now.parts.now (slice_index_or bands.old l no_band) (slice_index_or bands.new l no_band) }
+    requires bands { (l : ℕ) → l < length bands.old → CanUpdate elimination.now (slice_index_or bands.old l no_band) }
+    ensures { (l : ℕ) → l < length bands.old
+        → IsUpdated elimination.now (slice_index_or bands.old l no_band) (slice_index_or bands.new l no_band) }
 {
     for level in 0..bands.len() {
         bands[level].update_alone(elimination);

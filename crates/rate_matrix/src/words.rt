@@ -7,7 +7,7 @@ ghost use Rattle.rate_matrix.specs.WordChains.{by_rank, word_rates, word_top};
 
 use crate::chain::Chain;
 use busy_words::{Order, is_busy, up};
-use hyper_model::Plan;
+use hyper_model::{Plan, law_accepted};
 
 /// The words of a plan as the states of a chain, by their ranks in the order.
 #[derive(Clone, Copy)]
@@ -20,7 +20,7 @@ pub struct WordChain<'a> {
 impl<'a> WordChain<'a> {
     /// The chain of the plan's words in this order.
     ///
-    /// Masses of the words, listed by rank, solve the balance of this chain exactly where they solve that of
+    /// Masses of the words, listed by rank, solve the balance of this chain exactly if they solve that of
     /// the plan.
     pub fn of(plan: &'a Plan, order: &'a Order) -> WordChain<'a>
         requires { order.now.units ≡ units plan.now }
@@ -29,7 +29,7 @@ impl<'a> WordChain<'a> {
         ensures balance { (xs : List ℕ) → length xs ≡ words plan.now → SolvesWords plan.now xs
             ↔ IsTableSolution (words plan.now) (word_rates plan.now order.now) (by_rank order.now xs) }
     {
-        let _calls = plan.calls();
+        law_accepted(plan);
         let _units = order.units();
         WordChain { plan, order }
     }
@@ -43,7 +43,7 @@ impl Chain for WordChain<'_> {
     ghost most = { λ s. word_top s.plan.now };
 
     fn size(&self) -> usize {
-        let _calls = self.plan.calls();
+        law_accepted(self.plan);
         let _units = self.order.units();
         self.order.len()
     }
@@ -59,7 +59,7 @@ impl Chain for WordChain<'_> {
     }
 }
 
-// The rate from a word to another, in which one unit alone has changed or there is none.
+// The rate from a word to another, in which only one unit has changed or there is none.
 fn rate_between_words(plan: &Plan, word: u16, next: u16) -> u64
     requires word { word < words plan.now }
     requires next { next < words plan.now }

@@ -1,6 +1,6 @@
 //! Times the plan reader beside a bare pass of the CSV reader over the same text.
 //!
-//! The word of the command line names the text's file; without it a small plan is read. What was read goes to standard
+//! The argument names the text's file; without it a small plan is read. What was read goes to standard
 //! output, and the least time of each way to standard error.
 #![tactic(auto)]
 
@@ -9,9 +9,7 @@ mod ways;
 use std::time::{Duration, Instant};
 use std::{env, fs, io};
 use ways::Way;
-
-/// A plan of one unit.
-const SMALL: &str = "unit,A,2\natom,P,1,0,0,A\ntravel,P,P,300\nat,A,P,1000\nprefer,P,A\n";
+use worked_plans::HALF_LOAD;
 
 /// How often a text is read in each way.
 const ROUNDS: u32 = 9;
@@ -22,11 +20,11 @@ fn main(rt: HostRuntime) -> io::Result<()> {
             let text = fs::read(&rt, name)?;
             compare(&rt, &text)
         }
-        None => compare(&rt, SMALL.as_bytes()),
+        None => compare(&rt, HALF_LOAD.as_bytes()),
     }
 }
 
-/// Reads a text in both ways, and tells what each found and how long it took.
+/// Reads a text in both ways, and prints what each found and how long it took.
 fn compare(rt: &HostRuntime, text: &[u8]) -> io::Result<()> {
     for way in [Way::Fields, Way::Plan] {
         let found = ways::read(rt.alloc(), way, text)?;

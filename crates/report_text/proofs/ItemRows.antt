@@ -5,7 +5,8 @@ use Rattle.std.specs.List.{flat_map}
 use Rattle.std.proofs.lemmas.Grind.{flat_map-append}
 use Rattle.std.proofs.lemmas.List.Elements.{filter_more}
 use Rattle.std.proofs.lemmas.Option.{get_or_from_slice_get, slice_get_within}
-use Rattle.text_lines.proofs.Pieces.{drop_at, piece_last}
+use Rattle.text_lines.proofs.Pieces.{piece_last}
+use Rattle.hyper_model.proofs.ListPlaces.{drop_at}
 use Rattle.report_text.specs.declared.ending.ReportEnd.{ReportEnd}
 use Rattle.report_text.specs.TooWide.{EndsAt}
 use Rattle.hyper_model.specs.declared.kinds.Enclosed.{Enclosed}

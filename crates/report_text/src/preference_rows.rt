@@ -1,12 +1,12 @@
 ghost use Rattle.std.specs.Prelude.{◌≡◌, ◌+◌, ◌<◌, ◌++◌, if◌then◌else◌, [], All, length, IfOk, codes};
-ghost use Rattle.std.specs.List.{flat_map, list_all};
-ghost use Rattle.hyper_model.specs.Groups.{groups_from, groups_in};
-ghost use Rattle.hyper_model.specs.Plans.{units, atoms, are_single, IsAccepted};
+ghost use Rattle.std.specs.List.{flat_map};
+ghost use Rattle.hyper_model.specs.Groups.{groups_from};
+ghost use Rattle.hyper_model.specs.Plans.{units, atoms, IsAccepted};
 ghost use Rattle.report_text.specs.Labels.{atom_field};
 ghost use Rattle.report_text.specs.Lists.{all_list_rows, list_row, list_rows};
 
 use crate::labels::{push_atom, push_unit};
-use hyper_model::{Lists, Plan, law_accepted};
+use hyper_model::{Plan, law_accepted};
 use std::alloc::AllocError;
 
 /// Puts the rows of all atoms' preference lists after the text, in the order of the atoms.
@@ -29,26 +29,11 @@ fn push_list(text: &mut Vec<u8>, plan: &Plan, j: u16) -> Result<(), AllocError>
     let atom = usize::from(j);
     let members = lists.list(atom);
     let begins = lists.later_begins(atom);
-    if is_single(lists, atom) {
+    if lists.is_single(atom) {
         push_prefer(text, plan, j, members)
     } else {
         push_groups(text, plan, j, members, begins)
     }
-}
-
-/// Whether each group of the atom's list has one unit.
-fn is_single(lists: &Lists, atom: usize) -> bool
-    requires { atom < length lists.now.rows }
-    ensures { result ≡ are_single (groups_in lists.now atom) }
-{
-    let _list = lists.list(atom);
-    all_begin(lists.later_begins(atom))
-}
-
-fn all_begin(begins: &[bool]) -> bool
-    ensures { result ≡ list_all (λ begin. begin) begins.now }
-{
-    begins.iter().all(|begin| *begin)
 }
 
 /// Puts the row of a list whose groups have one unit each.

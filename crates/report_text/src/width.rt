@@ -1,5 +1,6 @@
 ghost use Rattle.std.specs.Prelude.{◌≡◌, ◌&&◌, ◌||◌, not, true, false, None, Some, IfErr, OnOk};
 ghost use Rattle.hyper_model.specs.Enclosures.{IsOrderedEnclosed};
+ghost use Rattle.hyper_model.specs.Measures as measures;
 ghost use Rattle.report_text.specs.Reports as spec;
 ghost use Rattle.report_text.specs.TooWide as limits;
 ghost use Rattle.report_text.specs.TooWide.{first_wide, is_wide, EndsAt};
@@ -52,13 +53,13 @@ pub fn is_too_wide(item: Enclosed, widths: Widths) -> bool
 
 /// Whether the report or the summary has a row of the measure.
 pub(crate) fn is_printed(measure: Measure, summary: bool) -> bool
-    ensures { result ≡ (not summary || spec.is_of_region measure) }
+    ensures { result ≡ (not summary || measures.is_of_region measure) }
 {
     !summary || is_of_region(measure)
 }
 
 fn is_of_region(measure: Measure) -> bool
-    ensures { result ≡ spec.is_of_region measure }
+    ensures { result ≡ measures.is_of_region measure }
 {
     matches!(measure.subject(), Subject::Region)
 }

@@ -1,13 +1,17 @@
-//! How long each part of solving a plan takes.
+//! How long solving a plan takes, in whole and in parts.
 //!
-//! Without words the size of a small made plan's report is printed, which is always the same. `FILE WORKERS` writes the
-//! nanoseconds of the parts to standard error, and the size of the report.
+//! Without arguments the weights of a small made plan and the size of its report are printed, which are always the same.
+//! `rates FILE` prints the rates of a plan's chain. `rows FILE WORKERS`, `solve FILE WORKERS` and `parts FILE WORKERS`
+//! write nanoseconds to standard error: of the changes of rows, of the weights, and of reading, weighing, measuring and
+//! writing.
 #![tactic(auto)]
 
 ghost use Rattle.std.specs.Prelude.{◌≤◌, IfOk};
 
-use parts::solve;
+use hyper_model::Plan;
 use plan_maker::make;
+use plan_reader::read_plan;
+use rate_matrix::WordChain;
 use refusal::TimesRefusal;
 use std::rt::Files;
 use std::thread::Threads;
@@ -15,35 +19,45 @@ use std::time::Clock;
 use std::{env, fs};
 
 mod measuring;
+mod orders;
 mod parts;
+mod rates;
 mod refusal;
+mod rows;
+mod solving;
 
 fn main(rt: HostRuntime) -> Result<(), TimesRefusal> {
-    let mut words = Vec::new(rt.alloc());
-    for word in env::args(&rt)?.skip(1) {
-        words.push(word)?;
+    let mut arguments = Vec::new(rt.alloc());
+    for argument in env::args(&rt)?.skip(1) {
+        arguments.push(argument)?;
     }
-    run(&rt, &words)
+    run(&rt, &arguments)
 }
 
 fn run<R: Print + Eprint + Files + Clock + Threads + Sync + AllocGlobal>(
     rt: &R,
-    words: &[String],
+    arguments: &[String],
 ) -> Result<(), TimesRefusal> {
-    match words {
+    match arguments {
         [] => print_small(rt),
-        [file, workers] => {
-            let text = fs::read(rt, file.as_str())?;
-            measure(rt, &text, workers_of(workers.as_str())?)
+        [_, file] => print_rates(rt, &read(rt, file.as_str())?),
+        [task, file, workers] => {
+            let workers = workers_of(workers.as_str())?;
+            measure(rt, task.as_str(), file.as_str(), workers)
         }
-        _ => Err(TimesRefusal::UnknownWords),
+        _ => Err(TimesRefusal::UnknownArguments),
     }
 }
 
-fn workers_of(word: &str) -> Result<u32, TimesRefusal>
+fn read(rt: &(impl Files + AllocGlobal), file: &str) -> Result<Plan, TimesRefusal> {
+    let text = fs::read(rt, file)?;
+    Ok(read_plan(rt.alloc(), text.as_slice())?)
+}
+
+fn workers_of(argument: &str) -> Result<u32, TimesRefusal>
     ensures { IfOk result (λ workers. (1 ≤ workers) × (workers ≤ 16)) }
 {
-    let workers = word.parse::<u32>()?;
+    let workers = argument.parse::<u32>()?;
     if workers == 0 || workers > 16 {
         return Err(TimesRefusal::WorkerRange);
     }
@@ -55,12 +69,72 @@ fn print_small<R: Print + Clock + Threads + Sync + AllocGlobal>(
     rt: &R,
 ) -> Result<(), TimesRefusal> {
     let text = make(rt.alloc(), 4, 0)?;
-    let (report, _) = solve(rt, rt.alloc(), &text, 2)?;
+    print_weights(rt, &read_plan(rt.alloc(), text.as_slice())?)?;
+    let (report, _) = parts::solve(rt, rt.alloc(), &text, 2)?;
     println!(rt; "{} bytes", report.len())?;
     Ok(())
 }
 
-fn measure<R: Eprint + Clock + Threads + Sync + AllocGlobal>(
+// Two workers change the rows, and one finds the weights.
+fn print_weights<R: Print + Clock + Threads + Sync + AllocGlobal>(
+    rt: &R,
+    plan: &Plan,
+) -> Result<(), TimesRefusal> {
+    let order = orders::order_of(rt.alloc(), plan)?;
+    let chain = WordChain::of(plan, &order);
+    let (updates, _) = rows::time_rows(rt, rt.alloc(), &chain, 2)?;
+    println!(rt; "changed,{}", updates.changed)?;
+    let (weights, _) = solving::solve(rt, rt.alloc(), &chain, 1)?;
+    solving::print_weights(rt, &weights)?;
+    Ok(())
+}
+
+fn print_rates(rt: &(impl Print + AllocGlobal), plan: &Plan) -> Result<(), TimesRefusal> {
+    let order = orders::order_of(rt.alloc(), plan)?;
+    rates::print_chain(rt, &WordChain::of(plan, &order))?;
+    Ok(())
+}
+
+fn measure<R: Eprint + Files + Clock + Threads + Sync + AllocGlobal>(
+    rt: &R,
+    task: &str,
+    file: &str,
+    workers: u32,
+) -> Result<(), TimesRefusal>
+    requires some { 1 ≤ workers }
+    requires most { workers ≤ 16 }
+{
+    if task == "parts" {
+        measure_parts(rt, &fs::read(rt, file)?, workers)
+    } else {
+        measure_chain(rt, task, &read(rt, file)?, workers)
+    }
+}
+
+fn measure_chain<R: Eprint + Clock + Threads + Sync + AllocGlobal>(
+    rt: &R,
+    task: &str,
+    plan: &Plan,
+    workers: u32,
+) -> Result<(), TimesRefusal>
+    requires some { 1 ≤ workers }
+    requires most { workers ≤ 16 }
+{
+    let order = orders::order_of(rt.alloc(), plan)?;
+    let chain = WordChain::of(plan, &order);
+    if task == "rows" {
+        let (updates, left) = rows::time_rows(rt, rt.alloc(), &chain, workers)?;
+        let (changed, nanoseconds) = (updates.changed, updates.nanoseconds);
+        eprintln!(rt; "{changed} {nanoseconds} {} {}", left.lo(), left.hi())?;
+    } else {
+        let (weights, solving) = solving::solve(rt, rt.alloc(), &chain, workers)?;
+        let (elimination, substitution) = (solving.elimination, solving.substitution);
+        eprintln!(rt; "{elimination} {substitution} {}", weights.len())?;
+    }
+    Ok(())
+}
+
+fn measure_parts<R: Eprint + Clock + Threads + Sync + AllocGlobal>(
     rt: &R,
     text: &[u8],
     workers: u32,
@@ -68,7 +142,7 @@ fn measure<R: Eprint + Clock + Threads + Sync + AllocGlobal>(
     requires some { 1 ≤ workers }
     requires most { workers ≤ 16 }
 {
-    let (report, parts) = solve(rt, rt.alloc(), text, workers)?;
+    let (report, parts) = parts::solve(rt, rt.alloc(), text, workers)?;
     let (reading, weighing) = (parts.reading, parts.weighing);
     let (measuring, writing) = (parts.measuring, parts.writing);
     eprintln!(rt;

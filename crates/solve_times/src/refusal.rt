@@ -9,15 +9,18 @@ use thiserror::Error;
 /// Why no times were taken.
 #[derive(Drop, Error)]
 pub(crate) enum TimesRefusal {
-    /// The command line has other words than a file and a number of workers.
-    #[error("the words are FILE WORKERS")]
-    UnknownWords,
+    /// The arguments ask for none of the tasks.
+    #[error("the arguments are rates FILE, or rows, solve or parts FILE WORKERS")]
+    UnknownArguments,
     /// There were to be no workers, or more than 16.
     #[error("there are 1 to 16 workers")]
     WorkerRange,
-    /// The word for the workers is no number.
+    /// The argument for the workers is no number.
     #[error(transparent)]
     NotANumber(#[from] ParseIntError),
+    /// All states but the first are eliminated.
+    #[error("no state is to be eliminated")]
+    NothingLeft,
     /// The small plan was not made.
     #[error(transparent)]
     NotMade(#[from] MakeRefusal),

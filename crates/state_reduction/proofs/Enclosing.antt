@@ -1,16 +1,18 @@
 -- One elimination of a table of whole rates, and of the intervals that enclose it. The table loses its last state
 -- and the scale of all its rates grows by one factor, so that no fraction arises. A row's sum over the scale stays
 -- as it is, which is why no cap cuts a rate off.
-use Rattle.std.proofs.Common.{◌≡◌, ◌≢◌, ℕ, suc, ◌+◌, ◌-◌, ◌*◌, ◌^◌, ◌<◌, ◌≤◌, refl, ap, arith}
+use Rattle.std.proofs.Common.{◌≡◌, ◌≢◌, ℕ, suc, ◌+◌, ◌-◌, ◌*◌, ◌^◌, ◌<◌, ◌≤◌, cond, eqb, not, refl, ap, arith}
 use Rattle.std.proofs.Math.Nat.{le_of_mul-le-mul_right, mul-le-mul_left, mul-le-mul_right, mul-pos}
 use Rattle.fixed_interval.specs.Ends.{Ends, Encloses, times_part_ends}
 use Rattle.fixed_interval.proofs.Rounding.{encloses_plus_capped, encloses_share, encloses_times, encloses_times_part}
 use Rattle.hyper_model.specs.Sums.{sum_below}
 use Rattle.hyper_model.specs.Tables.{RateTable, SolvesTable}
-use Rattle.hyper_model.proofs.Sums.{place_le_sum, rest_le, sum-le, sum-scaled}
+use Rattle.hyper_model.proofs.Sums.{place_le_sum, sum-at, sum-le, sum-scaled, sum_split}
 use Rattle.hyper_model.proofs.Tables.{last_place, row_of_smaller, without_last}
-use Rattle.rate_matrix.specs.Elimination.{Entries, HoldsAt, eliminated, part_to, raised, total_below, without_ends}
-use Rattle.rate_matrix.proofs.Raising.{eliminated-before}
+use Rattle.rate_matrix.specs.Elimination.{Entries, HoldsAt, entries_after, part_to, raised_entry, without_ends}
+use Rattle.busy_words.specs.Algebra.{total_ends, where_ends}
+use Rattle.busy_words.proofs.Algebra.{encloses_total, encloses_where}
+use Rattle.rate_matrix.proofs.Raising.{entries_after-before}
 
 -- the entries of the first n states enclose the rates of a table, over one scale, and no row is past its cap
 pub record LiesIn (n scale : ℕ) (rates : RateTable) (caps : ℕ → ℕ) (entries : Entries) : Type 0 where
@@ -18,62 +20,14 @@ pub record LiesIn (n scale : ℕ) (rates : RateTable) (caps : ℕ → ℕ) (entr
   pub inside : (i j : ℕ) → i < n → j < n → i ≢ j → Encloses (entries i j) (rates i j) scale
   pub rows : (i : ℕ) → i < n → sum_below n (rates i) ≤ caps i * scale
 
--- sums of low ends, and of high ends, over the same denominator
-sum_low : (n s : ℕ) (row : ℕ → Ends) (e : ℕ → ℕ) → ((k : ℕ) → k < n → Encloses (row k) (e k) s)
-    → (total_below row n).lo * s ≤ sum_below n e
-sum_low n s row e inside =
-    omega (
-      arith,
-      sum-scaled n s (λ k. (row k).lo),
-      sum-le n (λ k. s * (row k).lo) e (λ k l. omega (arith, (inside k l).low)),
-    )
-
-sum_high : (n s : ℕ) (row : ℕ → Ends) (e : ℕ → ℕ) → ((k : ℕ) → k < n → Encloses (row k) (e k) s)
-    → sum_below n e ≤ (total_below row n).hi * s
-sum_high n s row e inside =
-    omega (
-      arith,
-      sum-scaled n s (λ k. (row k).hi),
-      sum-le n e (λ k. s * (row k).hi) (λ k l. omega (arith, (inside k l).high)),
-    )
-
-pub encloses_total : (n s : ℕ) (row : ℕ → Ends) (e : ℕ → ℕ) → ((k : ℕ) → k < n → Encloses (row k) (e k) s)
-    → Encloses (total_below row n) (sum_below n e) s
-encloses_total n s row e inside = record { low = sum_low n s row e inside; high = sum_high n s row e inside }
-
--- a difference of two products by one factor
-low_rest : (total one s all e : ℕ) → one ≤ total → e ≤ all → total * s + e ≤ all + one * s → (total - one) * s ≤ all - e
-low_rest total one s all e less more le =
-    let split : (total - one) + one ≡ total = omega arith in
-    omega (arith, ap (λ k. k * s) split)
-
-high_rest : (total one s all e : ℕ) → one ≤ total → e ≤ all → all + one * s ≤ total * s + e → all - e ≤ (total - one) * s
-high_rest total one s all e less more le =
-    let split : (total - one) + one ≡ total = omega arith in
-    omega (arith, ap (λ k. k * s) split)
-
 -- all rates of a row but one
 pub encloses_rest : (n s : ℕ) (row : ℕ → Ends) (e : ℕ → ℕ) (j : ℕ) → j < n
-    → ((k : ℕ) → k < n → Encloses (row k) (e k) s)
-    → Encloses (without_ends (total_below row n) (row j)) (sum_below n e - e j) s
-encloses_rest n s row e j here inside = record {
-  low =
-      low_rest (total_below row n).lo (row j).lo s (sum_below n e) (e j) (place_le_sum n (λ k. (row k).lo) j here)
-      (place_le_sum n e j here)
-      (omega (
-        arith,
-        sum-scaled n s (λ k. (row k).lo),
-        rest_le n (λ k. s * (row k).lo) e j here (λ k l. omega (arith, (inside k l).low)),
-      ));
-  high =
-      high_rest (total_below row n).hi (row j).hi s (sum_below n e) (e j) (place_le_sum n (λ k. (row k).hi) j here)
-      (place_le_sum n e j here)
-      (omega (
-        arith,
-        sum-scaled n s (λ k. (row k).hi),
-        rest_le n e (λ k. s * (row k).hi) j here (λ k l. omega (arith, (inside k l).high)),
-      ));
-}
+    → ((k : ℕ) → k < n → Encloses (row k) (e k) s) → Encloses (without_ends n j row) (sum_below n e - e j) s
+encloses_rest n s row e j here inside =
+    let rest : sum_below n (λ k. cond (not (eqb k j)) (e k) 0) ≡ sum_below n e - e j =
+    omega (arith, sum_split n (λ k. eqb k j) e, sum-at n e j here) in
+    rw rest at (encloses_total n (λ k. where_ends (not (eqb k j)) (row k)) (λ k. cond (not (eqb k j)) (e k) 0) s
+    (λ k l. encloses_where (not (eqb k j)) (row k) (e k) s (λ _. inside k l)))
 
 -- the part of a rate in all that leaves state m for earlier states
 pub encloses_part_to : (m s : ℕ) (e : RateTable) (a : Entries) (j : ℕ) → j < m
@@ -82,7 +36,7 @@ unfolding part_to
 encloses_part_to m s e a j here inside =
     let whole : e m j + (sum_below m (e m) - e m j) ≡ sum_below m (e m) =
     omega (arith, place_le_sum m (e m) j here) in
-    rw whole at (encloses_share (a m j) (without_ends (total_below (a m) m) (a m j)) (part_to a m j) (2 ^ 62) refl
+    rw whole at (encloses_share (a m j) (without_ends m j (a m)) (part_to a m j) (2 ^ 62) refl
     (e m j) (sum_below m (e m) - e m j) s (inside j here) (encloses_rest m s (a m) (e m) j here inside))
 
 -- the row of the smaller table, in its larger scale
@@ -94,7 +48,7 @@ smaller_rows m s e caps i row =
 -- one entry that is raised
 encloses_raised : (m s : ℕ) (e : RateTable) (caps : ℕ → ℕ) (a : Entries) → LiesIn (suc m) s e caps a
     → (i j : ℕ) → i < m → j < m → i ≢ j
-    → Encloses (raised (a i j) (a i m) (part_to a m j) (caps i)) (without_last m e i j) (s * sum_below m (e m))
+    → Encloses (raised_entry (a i j) (a i m) (part_to a m j) (caps i)) (without_last m e i j) (s * sum_below m (e m))
 encloses_raised m s e caps a lies i j row column apart =
     let into : Encloses (a i m) (e i m) s = lies.inside i m (omega arith) (omega arith) (omega arith) in
     let part : Encloses (part_to a m j) (2 ^ 62 * e m j) (sum_below m (e m)) =
@@ -103,7 +57,7 @@ encloses_raised m s e caps a lies i j row column apart =
     encloses_times (a i j) (sum_below m (e m)) (e i j) s (sum_below m (e m) * e i j) (s * sum_below m (e m))
     refl (omega arith) (lies.inside i j (omega arith) (omega arith) apart) in
     encloses_plus_capped (a i j) (times_part_ends (a i m) (part_to a m j))
-    (raised (a i j) (a i m) (part_to a m j) (caps i)) (caps i) refl
+    (raised_entry (a i j) (a i m) (part_to a m j) (caps i)) (caps i) refl
     (sum_below m (e m) * e i j) (e i m * e m j) (s * sum_below m (e m)) old
     (encloses_times_part (a i m) (part_to a m j) (times_part_ends (a i m) (part_to a m j)) refl
     (e i m) s (e m j) (sum_below m (e m)) into part)
@@ -115,19 +69,19 @@ encloses_raised m s e caps a lies i j row column apart =
 
 -- what leaves the last state has a rate where the low ends of its entries are not all 0
 pub leaves_some : (m s : ℕ) (e : RateTable) (caps : ℕ → ℕ) (a : Entries) → LiesIn (suc m) s e caps a
-    → 0 < (total_below (a m) m).lo → 0 < sum_below m (e m)
+    → 0 < (total_ends m (a m)).lo → 0 < sum_below m (e m)
 leaves_some m s e caps a lies live =
-    let low = sum_low m s (a m) (e m) (λ k l. lies.inside m k (omega arith) (omega arith) (omega arith)) in
-    omega (arith, low, mul-pos live lies.scaled)
+    let low = encloses_total m (a m) (e m) s (λ k l. lies.inside m k (omega arith) (omega arith) (omega arith)) in
+    omega (arith, low.low, mul-pos live lies.scaled)
 
 -- one elimination
-pub eliminated-lies : (m s : ℕ) (e : RateTable) (caps : ℕ → ℕ) (a : Entries) → LiesIn (suc m) s e caps a
-    → 0 < (total_below (a m) m).lo
-    → LiesIn m (s * sum_below m (e m)) (without_last m e) caps (eliminated a caps m)
-eliminated-lies m s e caps a lies live = record {
+pub entries_after-lies : (m s : ℕ) (e : RateTable) (caps : ℕ → ℕ) (a : Entries) → LiesIn (suc m) s e caps a
+    → 0 < (total_ends m (a m)).lo
+    → LiesIn m (s * sum_below m (e m)) (without_last m e) caps (entries_after a caps m)
+entries_after-lies m s e caps a lies live = record {
   scaled = mul-pos lies.scaled (leaves_some m s e caps a lies live);
   inside = λ i j row column apart.
-      rw (eliminated-before a caps m i j row column apart) (encloses_raised m s e caps a lies i j row column apart);
+      rw (entries_after-before a caps m i j row column apart) (encloses_raised m s e caps a lies i j row column apart);
   rows = λ i row. smaller_rows m s e caps i (lies.rows i (omega arith));
 }
 
@@ -153,13 +107,13 @@ flow_high n s y a e inside =
 pub holds_last : (m s : ℕ) (e : RateTable) (caps : ℕ → ℕ) (a : Entries) (y : ℕ → ℕ) → LiesIn (suc m) s e caps a
     → SolvesTable (suc m) e y → HoldsAt a y m
 holds_last m s e caps a y lies solves =
-    let out = encloses_total m s (a m) (e m) (λ k l. lies.inside m k (omega arith) (omega arith) (omega arith)) in
+    let out = encloses_total m (a m) (e m) s (λ k l. lies.inside m k (omega arith) (omega arith) (omega arith)) in
     let column : (i : ℕ) → i < m → Encloses (a i m) (e i m) s =
     λ i l. lies.inside i m (omega arith) (omega arith) (omega arith) in
     let balance = last_place m e y solves in
-    let least : y m * (total_below (a m) m).lo * s ≤ sum_below m (λ i. y i * (a i m).hi) * s =
+    let least : y m * (total_ends m (a m)).lo * s ≤ sum_below m (λ i. y i * (a i m).hi) * s =
     omega (arith, balance, mul-le-mul_left (y m) out.low, flow_high m s y (λ i. a i m) (λ i. e i m) column) in
-    let most : sum_below m (λ i. y i * (a i m).lo) * s ≤ y m * (total_below (a m) m).hi * s =
+    let most : sum_below m (λ i. y i * (a i m).lo) * s ≤ y m * (total_ends m (a m)).hi * s =
     omega (arith, balance, mul-le-mul_left (y m) out.high, flow_low m s y (λ i. a i m) (λ i. e i m) column) in
     record {
       least = le_of_mul-le-mul_right least lies.scaled;

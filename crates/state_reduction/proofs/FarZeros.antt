@@ -4,7 +4,7 @@ use Rattle.std.proofs.Common.{◌≡◌, ◌≢◌, ℕ, zero, suc, ◌+◌, ◌
 use Rattle.std.specs.Int.{div_ceil}
 use Rattle.std.proofs.Math.Nat.{zero-div, zero-mod}
 use Rattle.fixed_interval.specs.Ends.{Ends, between, exact_ends, share_ends, times_part_ends}
-use Rattle.rate_matrix.specs.Elimination.{Entries, eliminated, left_after, part_to, raised, total_below, without_ends}
+use Rattle.rate_matrix.specs.Elimination.{Entries, entries_after, entries_left_after, part_to, raised_entry, without_ends}
 use Rattle.rate_matrix.specs.Levels.{AreFarApart, IsByLevels, IsZeroFarApart, ZerosStay}
 use Rattle.state_reduction.proofs.Steps.{at_entry}
 
@@ -33,8 +33,8 @@ share-nothing unit rest =
 pub part_to-nothing : (entries : Entries) (t j : ℕ) → entries t j ≡ exact_ends 0 → part_to entries t j ≡ exact_ends 0
 unfolding part_to
 part_to-nothing entries t j none =
-    ap (λ e. share_ends (2 ^ 62) e (without_ends (total_below (entries t) t) e)) none
-    ∙ share-nothing (2 ^ 62) (without_ends (total_below (entries t) t) (exact_ends 0))
+    ap (λ e. share_ends (2 ^ 62) e (without_ends t j (entries t))) none
+    ∙ share-nothing (2 ^ 62) (without_ends t j (entries t))
 
 -- nothing is added to nothing
 nothing_more : (old more : Ends) (cap : ℕ) → old ≡ exact_ends 0 → more ≡ exact_ends 0
@@ -44,15 +44,15 @@ nothing_more old more cap none no_more =
     (omega (arith, ap (λ (e : Ends). e.lo) none, ap (λ (e : Ends). e.lo) no_more))
     (omega (arith, ap (λ (e : Ends). e.hi) none, ap (λ (e : Ends). e.hi) no_more))
 
-pub raised-no_entry : (old into part : Ends) (cap : ℕ) → old ≡ exact_ends 0 → into ≡ exact_ends 0
-    → raised old into part cap ≡ exact_ends 0
-raised-no_entry old into part cap none no_way =
+pub raised_entry-no_entry : (old into part : Ends) (cap : ℕ) → old ≡ exact_ends 0 → into ≡ exact_ends 0
+    → raised_entry old into part cap ≡ exact_ends 0
+raised_entry-no_entry old into part cap none no_way =
     nothing_more old (times_part_ends into part) cap none
     (ap (λ e. times_part_ends e part) no_way ∙ times_part-no_entry part)
 
-pub raised-no_part : (old into part : Ends) (cap : ℕ) → old ≡ exact_ends 0 → part ≡ exact_ends 0
-    → raised old into part cap ≡ exact_ends 0
-raised-no_part old into part cap none no_way =
+pub raised_entry-no_part : (old into part : Ends) (cap : ℕ) → old ≡ exact_ends 0 → part ≡ exact_ends 0
+    → raised_entry old into part cap ≡ exact_ends 0
+raised_entry-no_part old into part cap none no_way =
     nothing_more old (times_part_ends into part) cap none
     (ap (λ e. times_part_ends into e) no_way ∙ times_part-no_part into)
 
@@ -62,9 +62,9 @@ far-apart level i j far same = elim far.far [
   | inr below ↦ omega (arith, ap level same)
 ]
 
-pub eliminated-zeros : (size : ℕ) (level : ℕ → ℕ) (entries : Entries) (caps : ℕ → ℕ) (t : ℕ) → t < size
-    → IsByLevels size level → IsZeroFarApart size level entries → IsZeroFarApart size level (eliminated entries caps t)
-eliminated-zeros size level entries caps t alive sorted zero_far = record {
+pub entries_after-zeros : (size : ℕ) (level : ℕ → ℕ) (entries : Entries) (caps : ℕ → ℕ) (t : ℕ) → t < size
+    → IsByLevels size level → IsZeroFarApart size level entries → IsZeroFarApart size level (entries_after entries caps t)
+entries_after-zeros size level entries caps t alive sorted zero_far = record {
   zeros = λ i j row column far.
       let none = zero_far.zeros i j row column far in
       at_entry (λ e. e ≡ exact_ends 0) entries caps t i j (far-apart level i j far) none (λ before next.
@@ -72,19 +72,19 @@ eliminated-zeros size level entries caps t alive sorted zero_far = record {
         | inl above ↦
             let away : AreFarApart level i t =
             record { far = inl (omega (arith, above, sorted.rises j t (omega arith) alive)) } in
-            raised-no_entry (entries i j) (entries i t) (part_to entries t j) (caps i) none
+            raised_entry-no_entry (entries i j) (entries i t) (part_to entries t j) (caps i) none
             (zero_far.zeros i t row alive away)
         | inr below ↦
             let away : AreFarApart level t j =
             record { far = inr (omega (arith, below, sorted.rises i t (omega arith) alive)) } in
-            raised-no_part (entries i j) (entries i t) (part_to entries t j) (caps i) none
+            raised_entry-no_part (entries i j) (entries i t) (part_to entries t j) (caps i) none
             (part_to-nothing entries t j (zero_far.zeros t j alive column away))
       ]);
 }
 
 pub zeros_stay : ZerosStay
-unfolding left_after
+unfolding entries_left_after
 zeros_stay size level entries caps sorted zero_far zero some = record { zeros = zero_far.zeros }
 zeros_stay size level entries caps sorted zero_far (suc k) some =
-    eliminated-zeros size level (left_after entries caps size k) caps (size - suc k) (omega arith) sorted
+    entries_after-zeros size level (entries_left_after entries caps size k) caps (size - suc k) (omega arith) sorted
     (zeros_stay size level entries caps sorted zero_far k (omega arith))

@@ -12,7 +12,7 @@ frame-none m = record {
   size = refl;
   scale = refl;
   packed = refl;
-  flows = refl;
+  outflows = refl;
   levels = refl;
   count = refl;
   shape = λ l. same_shape (band_at m l);
@@ -23,7 +23,7 @@ frame-more a b c first second = record {
   size = second.size ∙ first.size;
   scale = second.scale ∙ first.scale;
   packed = second.packed ∙ first.packed;
-  flows = second.flows ∙ first.flows;
+  outflows = second.outflows ∙ first.outflows;
   levels = second.levels ∙ first.levels;
   count = second.count ∙ first.count;
   shape = λ l. record {
@@ -36,8 +36,8 @@ frame-more a b c first second = record {
 
 pub cap-same : (a b : BandedRates) → HasSameFrame a b → (i : ℕ) → cap b i ≡ cap a i
 cap-same a b frame i =
-    ap (λ s. s * slice_index b.flows i) frame.scale
-    ∙ ap (λ (flows : List ℕ). a.scale * slice_index flows i) frame.flows
+    ap (λ s. s * slice_index b.outflows i) frame.scale
+    ∙ ap (λ (outflows : List ℕ). a.scale * slice_index outflows i) frame.outflows
 
 -- what the first keeps, the second keeps
 pub kept-same : (a b : BandedRates) → HasSameFrame a b → (i j : ℕ) → IsKept a i j → IsKept b i j
@@ -53,7 +53,7 @@ fewer-frame m n is =
       size = refl;
       scale = refl;
       packed = refl;
-      flows = refl;
+      outflows = refl;
       levels = refl;
       count = refl;
       shape = λ l. same_shape (band_at m l);

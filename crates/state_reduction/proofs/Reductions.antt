@@ -1,40 +1,35 @@
 -- A matrix while its states are eliminated, state by state.
-use Rattle.std.proofs.Common.{◌≡◌, ℕ, suc, ◌+◌, ◌-◌, ◌*◌, ◌<◌, ◌≤◌, List, refl, sym, ap, subst, ◌∙◌, arith}
+use Rattle.std.proofs.Common.{◌≡◌, ℕ, suc, ◌+◌, ◌-◌, ◌*◌, ◌<◌, ◌≤◌, Bool, List, length, refl, sym, ap, subst, ◌∙◌, arith}
 use Rattle.fixed_interval.specs.Ends.{Ends, exact_ends}
 use Rattle.hyper_model.specs.Solutions.{mass_in}
 use Rattle.hyper_model.specs.Tables.{Descends}
 use Rattle.hyper_model.proofs.Tables.{solves_between}
 use Rattle.rate_matrix.specs.Bands.{BandedRates, HasSameFrame, IsKept, cap, entry}
-use Rattle.rate_matrix.specs.Elimination.{Entries, eliminated, left_after, outflow_of, part_to, raised_by}
+use Rattle.rate_matrix.specs.Elimination.{Entries, entries_after, entries_left_after, outflow_of, part_to, raised_entries}
 use Rattle.rate_matrix.specs.Rows.{part_in}
-use Rattle.rate_matrix.proofs.Raising.{left_after-more, left_after-none}
+use Rattle.rate_matrix.proofs.Raising.{entries_left_after-more, entries_left_after-none}
 use Rattle.state_reduction.specs.Laws.{HoldsSolutions, MatricesBegin}
+use Rattle.state_reduction.specs.Reductions.{IsReduced, LosesState, MayBeReduced, MayLoseState}
 use Rattle.state_reduction.proofs.Frames.{cap-same, fewer-alive, fewer-entry, fewer-frame, frame-more, frame-none, kept-same, no_part_outside}
-use Rattle.state_reduction.proofs.RaisedRows.{passed_on, raised_by-same}
+use Rattle.state_reduction.proofs.RaisedRows.{next_entries, raised_entries-same}
 use Rattle.state_reduction.proofs.Runs.{apart_rate, holds_every_solution}
 use Rattle.rate_matrix.proofs.Sameness.{part_to-same}
 
-eliminated-open : (a : Entries) (caps : ℕ → ℕ) (t i j : ℕ)
-    → eliminated a caps t i j ≡ raised_by (part_to a t) a caps t i j
-unfolding eliminated
-eliminated-open a caps t i j = refl
+entries_after-open : (a : Entries) (caps : ℕ → ℕ) (t i j : ℕ)
+    → entries_after a caps t i j ≡ raised_entries (part_to a t) a caps t i j
+unfolding entries_after
+entries_after-open a caps t i j = refl
 
 -- one elimination follows from the entries of the states that there are
-pub eliminated-alike : (size : ℕ) (a b : Entries) (caps limits : ℕ → ℕ) (t : ℕ) → t < size
+pub entries_after-alike : (size : ℕ) (a b : Entries) (caps limits : ℕ → ℕ) (t : ℕ) → t < size
     → ((i j : ℕ) → i < size → j < size → a i j ≡ b i j) → ((i : ℕ) → i < size → caps i ≡ limits i)
-    → (i j : ℕ) → i < size → j < size → eliminated a caps t i j ≡ eliminated b limits t i j
-eliminated-alike size a b caps limits t inside same bounds i j row column =
-    eliminated-open a caps t i j
-    ∙ raised_by-same (part_to a t) (part_to b t) a b caps limits t i j
+    → (i j : ℕ) → i < size → j < size → entries_after a caps t i j ≡ entries_after b limits t i j
+entries_after-alike size a b caps limits t inside same bounds i j row column =
+    entries_after-open a caps t i j
+    ∙ raised_entries-same (part_to a t) (part_to b t) a b caps limits t i j
     (λ before. part_to-same size a b (record { same = λ p q l k ne. same p q l k }) t j inside before)
     (same i j row column) (same i t row inside) (bounds i row)
-    ∙ sym (eliminated-open b limits t i j)
-
--- one state more is eliminated
-pub record LosesState (m n : BandedRates) : Type 0 where
-  pub frame : HasSameFrame m n
-  pub alive : n.alive + 1 ≡ m.alive
-  pub entries : (i j : ℕ) → i < m.size → j < m.size → entry n i j ≡ eliminated (entry m) (cap m) n.alive i j
+    ∙ sym (entries_after-open b limits t i j)
 
 -- the parts of what leaves state t
 abbrev pub ArePartsOf : BandedRates → ℕ → List Ends → Type 0
@@ -59,7 +54,7 @@ parts-outside m gone parts is are j before outside =
 pub loses-state : (m gone n : BandedRates) (parts : List Ends) → 1 ≤ m.alive → m.alive ≤ m.size
     → gone ≡ record m { alive = m.alive - 1 }
     → ArePartsOf m (m.alive - 1) parts → HasSameFrame gone n → n.alive ≡ gone.alive
-    → ((i j : ℕ) → i < gone.size → j < gone.size → entry n i j ≡ passed_on parts gone i j) → LosesState m n
+    → ((i j : ℕ) → i < gone.size → j < gone.size → entry n i j ≡ next_entries parts gone i j) → LosesState m n
 loses-state m gone n parts some most is parts_are frame alive entries =
     let fewer = fewer-alive m gone is in
     let kept = fewer-frame m gone is in
@@ -69,21 +64,21 @@ loses-state m gone n parts some most is parts_are frame alive entries =
       alive = omega (arith, last);
       entries = λ i j row column.
           entries i j (omega (arith, kept.size)) (omega (arith, kept.size))
-          ∙ ap (λ t. raised_by (part_in parts) (entry gone) (cap gone) t i j) (sym alive)
-          ∙ raised_by-same (part_in parts) (part_to (entry m) n.alive) (entry gone) (entry m) (cap gone) (cap m) n.alive i j
+          ∙ ap (λ t. raised_entries (part_in parts) (entry gone) (cap gone) t i j) (sym alive)
+          ∙ raised_entries-same (part_in parts) (part_to (entry m) n.alive) (entry gone) (entry m) (cap gone) (cap m) n.alive i j
           (λ before.
           parts_are j (omega (arith, last)) ∙ ap (λ t. part_to (entry m) t j) (sym last))
           (fewer-entry m gone is i j) (fewer-entry m gone is i n.alive) (cap-same m gone kept i)
-          ∙ sym (eliminated-open (entry m) (cap m) n.alive i j);
+          ∙ sym (entries_after-open (entry m) (cap m) n.alive i j);
     }
 
--- all states behind those that are alive are eliminated
+-- all states after those that are alive are eliminated
 pub record StatesGone (first m : BandedRates) : Type 0 where
   pub frame : HasSameFrame first m
   pub some : 1 ≤ m.alive
   pub most : m.alive ≤ first.size
   pub left : (i j : ℕ) → i < first.size → j < first.size
-      → entry m i j ≡ left_after (entry first) (cap first) first.size (first.size - m.alive) i j
+      → entry m i j ≡ entries_left_after (entry first) (cap first) first.size (first.size - m.alive) i j
 
 pub states-all : (m : BandedRates) → 1 ≤ m.alive → m.alive ≡ m.size → StatesGone m m
 states-all m some all =
@@ -93,8 +88,8 @@ states-all m some all =
       some = some;
       most = omega arith;
       left = λ i j l k.
-          sym (ap (λ n. left_after (entry m) (cap m) m.size n i j) none
-          ∙ left_after-none (entry m) (cap m) m.size i j);
+          sym (ap (λ n. entries_left_after (entry m) (cap m) m.size n i j) none
+          ∙ entries_left_after-none (entry m) (cap m) m.size i j);
     }
 
 pub states-fewer : (first m n : BandedRates) → StatesGone first m → 2 ≤ m.alive → LosesState m n → StatesGone first n
@@ -109,23 +104,23 @@ states-fewer first m n gone some less =
       most = omega (arith, gone.most);
       left = λ i j l k.
           less.entries i j (omega (arith, size)) (omega (arith, size))
-          ∙ eliminated-alike first.size (entry m) (left_after (entry first) (cap first) first.size (first.size - m.alive))
+          ∙ entries_after-alike first.size (entry m) (entries_left_after (entry first) (cap first) first.size (first.size - m.alive))
           (cap m) (cap first) n.alive (omega (arith, gone.most)) gone.left (λ p inside. cap-same first m gone.frame p)
           i j l k
-          ∙ sym (ap (λ c. left_after (entry first) (cap first) first.size c i j) more
-          ∙ left_after-more (entry first) (cap first) first.size (first.size - m.alive) n.alive i j last);
+          ∙ sym (ap (λ c. entries_left_after (entry first) (cap first) first.size c i j) more
+          ∙ entries_left_after-more (entry first) (cap first) first.size (first.size - m.alive) n.alive i j last);
     }
 
 -- the whole run
 pub states-end : (first m : BandedRates) → StatesGone first m → m.alive ≤ 1 → (i j : ℕ) → i < first.size
-    → j < first.size → entry m i j ≡ left_after (entry first) (cap first) first.size (first.size - 1) i j
+    → j < first.size → entry m i j ≡ entries_left_after (entry first) (cap first) first.size (first.size - 1) i j
 states-end first m gone one i j l k =
     let same : first.size - m.alive ≡ first.size - 1 = omega (arith, gone.some) in
-    gone.left i j l k ∙ ap (λ n. left_after (entry first) (cap first) first.size n i j) same
+    gone.left i j l k ∙ ap (λ n. entries_left_after (entry first) (cap first) first.size n i j) same
 
 pub holds-solutions : (first m : BandedRates)
     → ((i j : ℕ) → i < first.size → j < first.size
-    → entry m i j ≡ left_after (entry first) (cap first) first.size (first.size - 1) i j)
+    → entry m i j ≡ entries_left_after (entry first) (cap first) first.size (first.size - 1) i j)
     → HoldsSolutions first m
 holds-solutions first m left rates ys begins solution =
     holds_every_solution first.size first.scale rates (cap first) (entry first) (entry m) ys begins
@@ -152,4 +147,42 @@ matrices_begin states top rates m is some descends =
             ap (λ a. m.scale * a) (is.outflows i (omega arith))
             ∙ ap (λ n. m.scale * outflow_of n rates i) (sym size);
       };
+    }
+
+-- the run so far, with as much room in the row as before
+pub record IsUnderWay (first m : BandedRates) (begun row : List Ends) : Type 0 where
+  pub gone : StatesGone first m
+  pub room : length row ≡ length begun
+
+pub starts : (packed : Bool) (m : BandedRates) (row : List Ends) → 1 ≤ m.size → MayBeReduced packed m row
+    → IsUnderWay m m row row
+starts packed m row some ready = record {
+  gone = states-all m (omega (arith, ready.alive)) ready.alive;
+  room = refl;
+}
+
+pub may_lose : (packed : Bool) (first m : BandedRates) (begun row : List Ends) → MayBeReduced packed first begun
+    → IsUnderWay first m begun row → 2 ≤ m.alive → MayLoseState packed m row
+may_lose packed first m begun row ready way some = record {
+  form = way.gone.frame.packed ∙ ready.form;
+  alive = some;
+  room = omega (arith, way.gone.frame.size, ready.room, way.room);
+}
+
+pub goes_on : (first m n : BandedRates) (begun row next : List Ends) → IsUnderWay first m begun row → 2 ≤ m.alive
+    → LosesState m n → length next ≡ length row → IsUnderWay first n begun next
+goes_on first m n begun row next way some less same = record {
+  gone = states-fewer first m n way.gone some less;
+  room = same ∙ way.room;
+}
+
+pub ends_reduced : (first m : BandedRates) (begun row : List Ends) → IsUnderWay first m begun row → m.alive ≤ 1
+    → IsReduced first m
+ends_reduced first m begun row way one =
+    let left = states-end first m way.gone one in
+    record {
+      frame = way.gone.frame;
+      alive = omega (arith, way.gone.some);
+      entries = left;
+      solutions = holds-solutions first m left;
     }

@@ -11,12 +11,13 @@ use Rattle.hyper_model.specs.Solutions.{mass_in}
 use Rattle.hyper_model.specs.Tables.{RateTable, SolvesTable, between_states}
 use Rattle.hyper_model.proofs.Sums.{place_le_sum, sum-same, sum-scaled}
 use Rattle.hyper_model.proofs.Tables.{restricted, without_last}
-use Rattle.rate_matrix.specs.Elimination.{AreSoundEntries, Entries, HoldsAt, IsExact, eliminated, left_after, total_below}
+use Rattle.rate_matrix.specs.Elimination.{AreSoundEntries, Entries, HoldsAt, IsExact, entries_after, entries_left_after}
+use Rattle.busy_words.specs.Algebra.{total_ends}
 use Rattle.state_reduction.specs.Laws.{Begins, BeginsSound, HoldsEverySolution}
-use Rattle.rate_matrix.proofs.Raising.{eliminated-from, eliminated-to}
+use Rattle.rate_matrix.proofs.Raising.{entries_after-from, entries_after-to}
 use Rattle.rate_matrix.proofs.Sameness.{HoldsAll-same}
-use Rattle.state_reduction.proofs.Soundness.{left_after-sound}
-use Rattle.state_reduction.proofs.Enclosing.{LiesIn, eliminated-lies, holds_last, leaves_some}
+use Rattle.state_reduction.proofs.Soundness.{entries_left_after-sound}
+use Rattle.state_reduction.proofs.Enclosing.{LiesIn, entries_after-lies, holds_last, leaves_some}
 
 -- while the first t states are left: a table of them that the masses solve, and the balance of those that have gone
 pub record Remains (size t : ℕ) (caps : ℕ → ℕ) (y : ℕ → ℕ) (entries : Entries) : Type 0 where
@@ -27,33 +28,33 @@ pub record Remains (size t : ℕ) (caps : ℕ → ℕ) (y : ℕ → ℕ) (entrie
   pub held : (m : ℕ) → t ≤ m → m < size → HoldsAt entries y m
 
 -- no later elimination touches what stands in the balance of a state that has gone
-eliminated-holds : (entries : Entries) (caps : ℕ → ℕ) (y : ℕ → ℕ) (t m : ℕ) → t ≤ m → HoldsAt entries y m
-    → HoldsAt (eliminated entries caps t) y m
-eliminated-holds entries caps y t m gone holds =
-    let low = sum-same m (λ k. (eliminated entries caps t m k).lo) (λ k. (entries m k).lo)
-    (λ k l. ap (λ (e : Ends). e.lo) (eliminated-from entries caps t m k gone)) in
-    let high = sum-same m (λ k. (eliminated entries caps t m k).hi) (λ k. (entries m k).hi)
-    (λ k l. ap (λ (e : Ends). e.hi) (eliminated-from entries caps t m k gone)) in
-    let flow_low = sum-same m (λ i. y i * (eliminated entries caps t i m).lo) (λ i. y i * (entries i m).lo)
-    (λ i l. ap (λ (e : Ends). y i * e.lo) (eliminated-to entries caps t i m gone)) in
-    let flow_high = sum-same m (λ i. y i * (eliminated entries caps t i m).hi) (λ i. y i * (entries i m).hi)
-    (λ i l. ap (λ (e : Ends). y i * e.hi) (eliminated-to entries caps t i m gone)) in
+entries_after-holds : (entries : Entries) (caps : ℕ → ℕ) (y : ℕ → ℕ) (t m : ℕ) → t ≤ m → HoldsAt entries y m
+    → HoldsAt (entries_after entries caps t) y m
+entries_after-holds entries caps y t m gone holds =
+    let low = sum-same m (λ k. (entries_after entries caps t m k).lo) (λ k. (entries m k).lo)
+    (λ k l. ap (λ (e : Ends). e.lo) (entries_after-from entries caps t m k gone)) in
+    let high = sum-same m (λ k. (entries_after entries caps t m k).hi) (λ k. (entries m k).hi)
+    (λ k l. ap (λ (e : Ends). e.hi) (entries_after-from entries caps t m k gone)) in
+    let flow_low = sum-same m (λ i. y i * (entries_after entries caps t i m).lo) (λ i. y i * (entries i m).lo)
+    (λ i l. ap (λ (e : Ends). y i * e.lo) (entries_after-to entries caps t i m gone)) in
+    let flow_high = sum-same m (λ i. y i * (entries_after entries caps t i m).hi) (λ i. y i * (entries i m).hi)
+    (λ i l. ap (λ (e : Ends). y i * e.hi) (entries_after-to entries caps t i m gone)) in
     record {
       least = omega (arith, holds.least, ap (λ a. y m * a) low, flow_high);
       most = omega (arith, holds.most, ap (λ a. y m * a) high, flow_low);
     }
 
 -- one elimination
-eliminated-remains : (size t : ℕ) (caps : ℕ → ℕ) (y : ℕ → ℕ) (entries : Entries)
-    → 0 < (total_below (entries t) t).lo → Remains size (suc t) caps y entries
-    → Remains size t caps y (eliminated entries caps t)
-eliminated-remains size t caps y entries live left = record {
+entries_after-remains : (size t : ℕ) (caps : ℕ → ℕ) (y : ℕ → ℕ) (entries : Entries)
+    → 0 < (total_ends t (entries t)).lo → Remains size (suc t) caps y entries
+    → Remains size t caps y (entries_after entries caps t)
+entries_after-remains size t caps y entries live left = record {
   scale = left.scale * sum_below t (left.rates t);
   rates = without_last t left.rates;
-  lies = eliminated-lies t left.scale left.rates caps entries left.lies live;
+  lies = entries_after-lies t left.scale left.rates caps entries left.lies live;
   solves = restricted t left.rates y (leaves_some t left.scale left.rates caps entries left.lies live) left.solves;
   held = λ m gone inside.
-      eliminated-holds entries caps y t m gone
+      entries_after-holds entries caps y t m gone
       (elim (cases_lt t m) [
         | inl after ↦ left.held m (omega arith) inside
         | inr here ↦
@@ -63,11 +64,11 @@ eliminated-remains size t caps y entries live left = record {
 }
 
 -- all eliminations so far
-left_after-remains : (size : ℕ) (caps : ℕ → ℕ) (y : ℕ → ℕ) (entries : Entries) → AreSoundEntries size 1 caps entries
+entries_left_after-remains : (size : ℕ) (caps : ℕ → ℕ) (y : ℕ → ℕ) (entries : Entries) → AreSoundEntries size 1 caps entries
     → Remains size size caps y entries → (k t : ℕ) → k + t ≡ size → 0 < t
-    → Remains size t caps y (left_after entries caps size k)
-unfolding left_after
-left_after-remains size caps y entries sound begins zero t whole some =
+    → Remains size t caps y (entries_left_after entries caps size k)
+unfolding entries_left_after
+entries_left_after-remains size caps y entries sound begins zero t whole some =
     let all : t ≡ size = omega arith in
     rw all (record {
       scale = begins.scale;
@@ -76,12 +77,12 @@ left_after-remains size caps y entries sound begins zero t whole some =
       solves = begins.solves;
       held = λ m gone inside. absurd (omega arith);
     })
-left_after-remains size caps y entries sound begins (suc k) t whole some =
+entries_left_after-remains size caps y entries sound begins (suc k) t whole some =
     let last : size - suc k ≡ t = omega arith in
-    let before = left_after-remains size caps y entries sound begins k (suc t) (omega arith) (omega arith) in
-    let live = (left_after-sound size 1 caps entries k (omega arith) sound).live.leaves t some (omega arith) in
-    subst (λ a. Remains size t caps y (eliminated (left_after entries caps size k) caps a)) (sym last)
-    (eliminated-remains size t caps y (left_after entries caps size k) (omega (arith, live)) before)
+    let before = entries_left_after-remains size caps y entries sound begins k (suc t) (omega arith) (omega arith) in
+    let live = (entries_left_after-sound size 1 caps entries k (omega arith) sound).live.leaves t some (omega arith) in
+    subst (λ a. Remains size t caps y (entries_after (entries_left_after entries caps size k) caps a)) (sym last)
+    (entries_after-remains size t caps y (entries_left_after entries caps size k) (omega (arith, live)) before)
 
 pub apart_rate : (i j a : ℕ) → i ≢ j → cond (eqb i j) 0 a ≡ a
 apart_rate i j a apart = grind (arith, nat_tests)
@@ -171,8 +172,8 @@ pub holds_every_solution : HoldsEverySolution
 holds_every_solution size scale rates caps entries left ys begins same solution =
     let some : 0 < size = some_state size (mass_in ys) solution.solves.positive in
     let sound = weaker_sound size scale caps entries begins.scaled (begins_sound size scale rates caps entries begins) in
-    let remains = left_after-remains size caps (mass_in ys) entries sound
+    let remains = entries_left_after-remains size caps (mass_in ys) entries sound
     (begins_remains size scale rates caps entries (mass_in ys) begins solution.solves)
     (size - 1) 1 (omega arith) (omega arith) in
-    HoldsAll-same size (left_after entries caps size (size - 1)) left (mass_in ys) same
+    HoldsAll-same size (entries_left_after entries caps size (size - 1)) left (mass_in ys) same
     (record { each = λ m later inside. remains.held m later inside })

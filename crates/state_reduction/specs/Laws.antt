@@ -3,7 +3,7 @@ use Rattle.std.specs.Prelude.{◌≡◌, ◌≢◌, ℕ, ◌-◌, ◌<◌, ◌�
 use Rattle.hyper_model.specs.Solutions.{mass_in}
 use Rattle.hyper_model.specs.Tables.{RateTable, Descends, IsTableSolution, between_states}
 use Rattle.rate_matrix.specs.Bands.{BandedRates, IsMatrixOf, cap, entry}
-use Rattle.rate_matrix.specs.Elimination.{AreOutflows, AreSoundEntries, Entries, HoldsAll, IsExact, SameEntries, left_after}
+use Rattle.rate_matrix.specs.Elimination.{AreOutflows, AreSoundEntries, Entries, HoldsAll, IsExact, SameEntries, entries_left_after}
 
 -- a matrix as it is before any elimination: the rates of a table in one scale, with its outflows as caps
 pub record Begins (size scale : ℕ) (rates : RateTable) (caps : ℕ → ℕ) (entries : Entries) : Type 0 where
@@ -16,7 +16,7 @@ pub record Begins (size scale : ℕ) (rates : RateTable) (caps : ℕ → ℕ) (e
 abbrev pub HoldsEverySolution : Type 0
 HoldsEverySolution =
     (size scale : ℕ) (rates : RateTable) (caps : ℕ → ℕ) (entries left : Entries) (ys : List ℕ)
-    → Begins size scale rates caps entries → SameEntries size (left_after entries caps size (size - 1)) left
+    → Begins size scale rates caps entries → SameEntries size (entries_left_after entries caps size (size - 1)) left
     → IsTableSolution size (between_states rates) ys → HoldsAll size left (mass_in ys)
 
 -- the same of matrices: of whichever table's rates the first one was, what is left of it holds each solution
@@ -45,7 +45,7 @@ BeginsSound =
 abbrev pub StaysSound : Type 0
 StaysSound =
     (size least : ℕ) (caps : ℕ → ℕ) (entries left : Entries) (k : ℕ) → k < size → AreSoundEntries size least caps entries
-    → SameEntries size (left_after entries caps size k) left
+    → SameEntries size (entries_left_after entries caps size k) left
     → AreSoundEntries size least caps left × IsRaisedFrom size entries left
 
 -- what is left between different states follows from the entries between different states, and from the caps
@@ -53,4 +53,4 @@ abbrev pub IsDetermined : Type 0
 IsDetermined =
     (size : ℕ) (a b : Entries) (caps limits : ℕ → ℕ) (k : ℕ) → k < size → SameEntries size a b
     → ((i : ℕ) → i < size → caps i ≡ limits i)
-    → SameEntries size (left_after a caps size k) (left_after b limits size k)
+    → SameEntries size (entries_left_after a caps size k) (entries_left_after b limits size k)

@@ -1,8 +1,9 @@
 ghost use Rattle.std.specs.Prelude.{◌≡◌, ◌≢◌, ℕ, ◌+◌, ◌^◌, ◌<◌, ◌≤◌, ◌==◌, false, true, length, if◌then◌else◌};
 ghost use Rattle.fixed_interval.specs.Ends.{plus_capped_ends};
 ghost use Rattle.rate_matrix.specs.Bands.{HasSameFrame, cap, entry};
-ghost use Rattle.rate_matrix.specs.Elimination.{eliminated, raised_by};
+ghost use Rattle.rate_matrix.specs.Elimination.{raised_entries};
 ghost use Rattle.rate_matrix.specs.Rows.{part_in};
+ghost use Rattle.state_reduction.specs.Reductions.{LosesState, MayLoseState};
 
 use crate::parts::fill_parts;
 use crate::row::Row;
@@ -15,13 +16,8 @@ use std::thread::Threads;
 /// What went through this state is added to the entries between the states before it; the entries from it
 /// and to it stay.
 pub fn step(m: &mut RateMatrix, scratch: &mut Row)
-    requires form { m.old.packed ≡ false }
-    requires alive { 2 ≤ m.old.alive }
-    requires room { m.old.size ≤ length scratch.old }
-    ensures frame { HasSameFrame m.old m.new }
-    ensures alive { m.new.alive + 1 ≡ m.old.alive }
-    ensures entries { (i j : ℕ) → i < m.old.size → j < m.old.size
-        → entry m.new i j ≡ eliminated (entry m.old) (cap m.old) m.new.alive i j }
+    requires ready { MayLoseState false m.old scratch.old }
+    ensures state { LosesState m.old m.new }
     ensures row { length scratch.new ≡ length scratch.old }
 {
     let state = m.alive() - 1;
@@ -32,13 +28,8 @@ pub fn step(m: &mut RateMatrix, scratch: &mut Row)
 
 /// Does what [`step`] does, in a packed matrix.
 pub(crate) fn step_packed(m: &mut RateMatrix, scratch: &mut Row)
-    requires form { m.old.packed ≡ true }
-    requires alive { 2 ≤ m.old.alive }
-    requires room { m.old.size ≤ length scratch.old }
-    ensures frame { HasSameFrame m.old m.new }
-    ensures alive { m.new.alive + 1 ≡ m.old.alive }
-    ensures entries { (i j : ℕ) → i < m.old.size → j < m.old.size
-        → entry m.new i j ≡ eliminated (entry m.old) (cap m.old) m.new.alive i j }
+    requires ready { MayLoseState true m.old scratch.old }
+    ensures state { LosesState m.old m.new }
     ensures row { length scratch.new ≡ length scratch.old }
 {
     let state = m.alive() - 1;
@@ -56,15 +47,10 @@ pub(crate) fn step_by_workers<R: Threads + Sync, G: Gate + Sync>(
     gate: &G,
     place: usize,
 )
-    requires form { m.old.packed ≡ true }
-    requires alive { 2 ≤ m.old.alive }
-    requires room { m.old.size ≤ length scratch.old }
+    requires ready { MayLoseState true m.old scratch.old }
     requires some { 1 ≤ workers }
     requires most { workers ≤ 16 }
-    ensures frame { HasSameFrame m.old m.new }
-    ensures alive { m.new.alive + 1 ≡ m.old.alive }
-    ensures entries { (i j : ℕ) → i < m.old.size → j < m.old.size
-        → entry m.new i j ≡ eliminated (entry m.old) (cap m.old) m.new.alive i j }
+    ensures state { LosesState m.old m.new }
     ensures row { length scratch.new ≡ length scratch.old }
 {
     let state = m.alive() - 1;
@@ -81,7 +67,7 @@ fn raise_rows(m: &mut RateMatrix, parts: &[Iv])
     ensures frame { HasSameFrame m.old m.new }
     ensures alive { m.new.alive ≡ m.old.alive }
     ensures entries { (i j : ℕ) → i < m.old.size → j < m.old.size → entry m.new i j
-        ≡ raised_by (part_in parts.now) (entry m.old) (cap m.old) m.old.alive i j }
+        ≡ raised_entries (part_in parts.now) (entry m.old) (cap m.old) m.old.alive i j }
 {
     for i in 0..m.alive() {
         raise_row(m, i, parts);
@@ -96,7 +82,7 @@ fn raise_row(m: &mut RateMatrix, i: usize, parts: &[Iv])
     ensures frame { HasSameFrame m.old m.new }
     ensures alive { m.new.alive ≡ m.old.alive }
     ensures entries { (j : ℕ) → j < m.old.size → entry m.new i j
-        ≡ raised_by (part_in parts.now) (entry m.old) (cap m.old) m.old.alive i j }
+        ≡ raised_entries (part_in parts.now) (entry m.old) (cap m.old) m.old.alive i j }
     ensures others { (p q : ℕ) → p < m.old.size → q < m.old.size → p ≢ i → entry m.new p q ≡ entry m.old p q }
 {
     let state = m.alive();

@@ -9,8 +9,6 @@ mod parts;
 mod reduction;
 mod row;
 mod sharing;
-#[cfg(test)]
-mod tests;
 
 pub use elimination::step;
 pub use reduction::{reduce, reduce_packed, reduce_rows};
@@ -42,7 +40,7 @@ pub fn law_determined()
     ensures { IsDetermined }
 {}
 
-/// Where states are sorted by levels and no entry leads past the next level, no elimination makes one that does.
+/// If states are sorted by levels and no entry leads past the next level, no elimination makes one that does.
 pub fn law_far_zeros()
     ensures { ZerosStay }
 {}

@@ -1,6 +1,7 @@
 ghost use Rattle.std.specs.Prelude.{◌≡◌, ℕ, ◌*◌, ◌^◌, ◌<◌, ◌≤◌, length};
 ghost use Rattle.rate_matrix.specs.Bands.{entry};
-ghost use Rattle.rate_matrix.specs.Elimination.{part_to, total_below};
+ghost use Rattle.rate_matrix.specs.Elimination.{part_to};
+ghost use Rattle.busy_words.specs.Algebra.{total_ends};
 ghost use Rattle.rate_matrix.specs.Rows.{part_in};
 
 use crate::row::Row;
@@ -24,7 +25,7 @@ pub(crate) fn fill_parts(m: &RateMatrix, state: usize, scratch: &mut Row)
 fn part_of(m: &RateMatrix, state: usize, j: usize, all: Wide) -> Iv
     requires state { state < m.now.size }
     requires before { j < state }
-    requires all { all ≡ total_below (entry m.now state) state }
+    requires all { all ≡ total_ends state (entry m.now state) }
     requires in_range { all.hi ≤ state * 2 ^ 62 }
     ensures { result ≡ part_to (entry m.now) state j }
 {

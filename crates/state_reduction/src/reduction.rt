@@ -1,7 +1,5 @@
-ghost use Rattle.std.specs.Prelude.{◌≡◌, ℕ, ◌-◌, ◌<◌, ◌≤◌, false, true, length};
-ghost use Rattle.rate_matrix.specs.Bands.{HasSameFrame, cap, entry};
-ghost use Rattle.rate_matrix.specs.Elimination.{left_after};
-ghost use Rattle.state_reduction.specs.Laws.{HoldsSolutions};
+ghost use Rattle.std.specs.Prelude.{◌≡◌, ◌≤◌, false, true, length};
+ghost use Rattle.state_reduction.specs.Reductions.{IsReduced, MayBeReduced};
 
 use crate::elimination::{step, step_by_workers, step_packed};
 use crate::row::Row;
@@ -13,14 +11,8 @@ use std::thread::Threads;
 /// What is left holds every solution of the balance equations (Grassmann, Taksar and Heyman 1985). The row is
 /// scratch, and no memory is taken.
 pub fn reduce(m: &mut RateMatrix, scratch: &mut Row)
-    requires form { m.old.packed ≡ false }
-    requires alive { m.old.alive ≡ m.old.size }
-    requires room { m.old.size ≤ length scratch.old }
-    ensures frame { HasSameFrame m.old m.new }
-    ensures alive { m.new.alive ≡ 1 }
-    ensures entries { (i j : ℕ) → i < m.old.size → j < m.old.size
-        → entry m.new i j ≡ left_after (entry m.old) (cap m.old) m.old.size (m.old.size - 1) i j }
-    ensures solutions { HoldsSolutions m.old m.new }
+    requires ready { MayBeReduced false m.old scratch.old }
+    ensures reduced { IsReduced m.old m.new }
     ensures row { length scratch.new ≡ length scratch.old }
 {
     let _size = m.size();
@@ -33,14 +25,8 @@ pub fn reduce(m: &mut RateMatrix, scratch: &mut Row)
 ///
 /// An entry outside of what the matrix keeps is 0 before and after, so that the same entries are left.
 pub fn reduce_packed(m: &mut RateMatrix, scratch: &mut Row)
-    requires form { m.old.packed ≡ true }
-    requires alive { m.old.alive ≡ m.old.size }
-    requires room { m.old.size ≤ length scratch.old }
-    ensures frame { HasSameFrame m.old m.new }
-    ensures alive { m.new.alive ≡ 1 }
-    ensures entries { (i j : ℕ) → i < m.old.size → j < m.old.size
-        → entry m.new i j ≡ left_after (entry m.old) (cap m.old) m.old.size (m.old.size - 1) i j }
-    ensures solutions { HoldsSolutions m.old m.new }
+    requires ready { MayBeReduced true m.old scratch.old }
+    ensures reduced { IsReduced m.old m.new }
     ensures row { length scratch.new ≡ length scratch.old }
 {
     let _size = m.size();
@@ -51,7 +37,7 @@ pub fn reduce_packed(m: &mut RateMatrix, scratch: &mut Row)
 
 /// Does what [`reduce_packed`] does, the rows of each elimination by 1 to 16 workers.
 ///
-/// Each new entry is computed by the gate, which is told the place of the matrix among others. One worker
+/// Each new entry is computed by the gate, which is given the place of the matrix among others. One worker
 /// starts no thread. Neither the number of workers nor the gate has a part in what is left.
 pub fn reduce_rows<R: Threads + Sync, G: Gate + Sync>(
     rt: &R,
@@ -61,16 +47,10 @@ pub fn reduce_rows<R: Threads + Sync, G: Gate + Sync>(
     gate: &G,
     place: usize,
 )
-    requires form { m.old.packed ≡ true }
-    requires alive { m.old.alive ≡ m.old.size }
-    requires room { m.old.size ≤ length scratch.old }
+    requires ready { MayBeReduced true m.old scratch.old }
     requires some { 1 ≤ workers }
     requires most { workers ≤ 16 }
-    ensures frame { HasSameFrame m.old m.new }
-    ensures alive { m.new.alive ≡ 1 }
-    ensures entries { (i j : ℕ) → i < m.old.size → j < m.old.size
-        → entry m.new i j ≡ left_after (entry m.old) (cap m.old) m.old.size (m.old.size - 1) i j }
-    ensures solutions { HoldsSolutions m.old m.new }
+    ensures reduced { IsReduced m.old m.new }
     ensures row { length scratch.new ≡ length scratch.old }
 {
     let _size = m.size();

@@ -1,8 +1,8 @@
 use crate::Row;
 
-fn shared<T: Send + Sync>(_value: &T) {}
+fn take_shared<T: Send + Sync>(_value: &T) {}
 
 /// A row can go from one thread to another, and be read by several.
 fn shows_shared_row(row: &Row) {
-    shared(row);
+    take_shared(row);
 }

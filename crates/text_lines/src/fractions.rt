@@ -66,20 +66,3 @@ fn digit(value: u64, power: u64) -> u8
 {
     b'0' + (value / power % 10) as u8
 }
-
-#[cfg(test)]
-mod tests {
-    use super::*;
-    use std::test::Fail;
-
-    #[test]
-    fn prints_fractions(rt: HostRuntime) -> Result<(), Fail> {
-        let loss = number_text(rt.alloc(), 333_333, 1_000_000)?;
-        assert_eq!(rt; loss.as_slice(), b"0.333333".as_slice());
-        let queue = number_text(rt.alloc(), 999_998_000_002, 1_000_000)?;
-        assert_eq!(rt; queue.as_slice(), b"999998.000002".as_slice());
-        let travel = number_text(rt.alloc(), 299_987, 1000)?;
-        assert_eq!(rt; travel.as_slice(), b"299.987".as_slice());
-        Ok(())
-    }
-}

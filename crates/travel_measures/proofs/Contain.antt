@@ -1,23 +1,24 @@
 -- For every solution that has these parts, each mean travel time lies between its ends.
-use Rattle.std.proofs.Common.{◌≡◌, ℕ, ◌+◌, ◌*◌, ◌^◌, ◌<◌, ◌≤◌, Bool, true, false, cond, eqb, List, All, refl, sym, ap, subst, ◌∙◌, arith}
+use Rattle.std.proofs.Common.{◌≡◌, ℕ, ◌+◌, ◌*◌, ◌^◌, ◌<◌, cond, eqb, List, ◌++◌, All, refl, sym, ap, subst, ◌∙◌, arith}
 use Rattle.std.specs.Prelude.{Option, None, Some}
-use Rattle.fixed_interval.specs.Ends.{Ends, Encloses, scaled_ends}
+use Rattle.std.proofs.lemmas.List.Elements.{All-cons, All-append}
+use Rattle.fixed_interval.specs.Ends.{Encloses, scaled_ends}
 use Rattle.fixed_interval.proofs.Rounding.{encloses_scaled}
 use Rattle.hyper_model.specs.declared.kinds.Measure.TheVariants as measure
-use Rattle.hyper_model.specs.declared.kinds.Found.{Found}
+use Rattle.hyper_model.specs.declared.kinds.Enclosed.{Enclosed}
 use Rattle.hyper_model.specs.declared.parts.PlanParts.{PlanParts}
 use Rattle.hyper_model.specs.Sums.{sum_below}
-use Rattle.hyper_model.specs.Plans.{units, atoms, service_of, calls_of, all_calls, all_service, is_inside, district_calls, split}
+use Rattle.hyper_model.specs.Plans.{units, atoms, service_of, calls_of, all_calls, all_service, district_calls, split}
 use Rattle.hyper_model.specs.Solutions.{mass_in}
-use Rattle.hyper_model.specs.Measures.{queued_mass, base, taken_mass, dispatch_flow_by, mean_travel, travel_from_calls, travel_to, measure_of, IsContained}
-use Rattle.hyper_model.proofs.Sums.{sum-same, sum-scaled, cond_scaled}
-use Rattle.busy_words.specs.Algebra.{total_ends, where_ends}
+use Rattle.hyper_model.specs.Measures.{queued_mass, base, taken_mass, dispatch_flow_by, mean_travel, travel_from_calls, travel_to, measure_of, IsInRange, IsContained, AreContained}
+use Rattle.hyper_model.proofs.Sums.{sum-scaled, choices_scaled}
+use Rattle.hyper_model.proofs.Ranges.{all_range}
+use Rattle.busy_words.specs.Algebra.{where_ends}
 use Rattle.busy_words.proofs.Algebra.{encloses_total, encloses_where}
 use Rattle.dispatch_fractions.specs.PartLists.{PartList, taken_by, help_of, waiting_on, HasParts}
-use Rattle.dispatch_fractions.specs.Fractions.{ends_found, IsAlwaysContained, AreContained, IsOfPlan, HasEndsOnly}
-use Rattle.dispatch_fractions.proofs.Ranges.{all_range}
+use Rattle.dispatch_fractions.specs.Fractions.{HasEndsOnly}
 use Rattle.dispatch_fractions.proofs.Contain.{found_where, absent_where}
-use Rattle.travel_measures.specs.TravelEnds.{is_among, late_ends, travel_to_calls, trip_ends, all_trip_ends, mean_ends, region_time_of, trips_to_ends, atom_ends, atom_time, atom_times_of, taken_ends, unit_ends, unit_time, unit_times_of, district_time, district_times_of, longest_mean}
+use Rattle.travel_measures.specs.TravelEnds.{is_among, late_travel_ends, travel_to_calls, trip_ends, all_trip_ends, mean_ends, region_time_of, trips_to_ends, atom_ends, atom_time, atom_times_of, taken_ends, unit_ends, unit_time, unit_times_of, district_time, district_times_of, travel_times_of, longest_mean}
 use Rattle.travel_measures.proofs.TimeEnds.{contains_time, late_is, mean_is, atom_is, unit_is}
 use Rattle.travel_measures.proofs.Times.{trips_to_mass, trip_mass, calls_among, travel_made, atom_fits, district_fits, taken_calls, unit_fits, dispatched_made}
 
@@ -47,7 +48,7 @@ module _ (p : PlanParts) (xs : List ℕ) (z : ℕ) (parts : PartList) (h : HasPa
   shares = split p * base p (mass_in xs) z
 
   late_holds : (district : Option ℕ)
-      → Encloses (late_ends p district) (travel_to_calls p district * 1 * 4096000) (all_calls p * 1)
+      → Encloses (late_travel_ends p district) (travel_to_calls p district * 1 * 4096000) (all_calls p * 1)
   late_holds district = late_is (travel_to_calls p district) (all_calls p) h.accepted.atoms.calls.low
 
   -- what a unit travels at once to one atom, so many times
@@ -61,13 +62,8 @@ module _ (p : PlanParts) (xs : List ℕ) (z : ℕ) (parts : PartList) (h : HasPa
       → Encloses (trip_ends p parts district n) (2 ^ 62 * trip_mass p (mass_in xs) district n) shares
   trips_hold district n l =
       subst (λ k. Encloses (trip_ends p parts district n) k shares)
-      (sum-same (atoms p)
-      (λ j. cond (is_among p district j) (2 ^ 62 * (calls_of p j * taken_mass p (mass_in xs) n j * mean_travel p n j)) 0)
-      (λ j. 2 ^ 62 * cond (is_among p district j) (calls_of p j * taken_mass p (mass_in xs) n j * mean_travel p n j) 0)
-      (λ j i. sym (cond_scaled (is_among p district j) (2 ^ 62)
-      (calls_of p j * taken_mass p (mass_in xs) n j * mean_travel p n j)))
-      ∙ sum-scaled (atoms p) (2 ^ 62)
-      (λ j. cond (is_among p district j) (calls_of p j * taken_mass p (mass_in xs) n j * mean_travel p n j) 0))
+      (choices_scaled (atoms p) (2 ^ 62) (is_among p district)
+      (λ j. calls_of p j * taken_mass p (mass_in xs) n j * mean_travel p n j))
       (encloses_total (atoms p)
       (λ j. where_ends (is_among p district j) (scaled_ends (calls_of p j * mean_travel p n j) (taken_by parts n j)))
       (λ j. cond (is_among p district j) (2 ^ 62 * (calls_of p j * taken_mass p (mass_in xs) n j * mean_travel p n j)) 0) shares
@@ -92,7 +88,7 @@ module _ (p : PlanParts) (xs : List ℕ) (z : ℕ) (parts : PartList) (h : HasPa
       + 1000 * split p * queued_mass p (mass_in xs) z * travel_to_calls p district)
       (all_calls p * calls * split p * base p (mass_in xs) z)
   mean_holds district calls same =
-      mean_is (all_trip_ends p parts district) (waiting_on p.line parts.full) (late_ends p district) (all_calls p) calls
+      mean_is (all_trip_ends p parts district) (waiting_on p.line parts.full) (late_travel_ends p district) (all_calls p) calls
       (split p) (base p (mass_in xs) z) (queued_mass p (mass_in xs) z) (travel_to_calls p district)
       (sum_below (units p) (trip_mass p (mass_in xs) district)) (longest_mean p) (all_trips_hold district)
       h.waiting (late_holds district)
@@ -150,7 +146,7 @@ module _ (p : PlanParts) (xs : List ℕ) (z : ℕ) (parts : PartList) (h : HasPa
         (measure_of p (mass_in xs) z (measure.TravelUnit n)) refl
         (ap (λ v. 1000 * (all_calls p * v)) (sym (dispatched_made p h.accepted (mass_in xs) z n))
         ∙ unit_grouped (all_calls p) (dispatch_flow_by p (mass_in xs) z n))
-        (unit_is (trip_ends p parts None n) (taken_ends p parts n) (help_of parts n) (late_ends p None) (all_calls p)
+        (unit_is (trip_ends p parts None n) (taken_ends p parts n) (help_of parts n) (late_travel_ends p None) (all_calls p)
         (all_service p) (split p) (service_of p n) (queued_mass p (mass_in xs) z) (travel_to_calls p None)
         (trip_mass p (mass_in xs) None n) (taken_calls p (mass_in xs) n) (base p (mass_in xs) z)
         (longest_mean p) (trips_hold None n l) (taken_holds n l) (h.help n l) (late_holds None)
@@ -169,40 +165,29 @@ module _ (p : PlanParts) (xs : List ℕ) (z : ℕ) (parts : PartList) (h : HasPa
       (district_grouped (all_calls p) (district_calls p n) (split p) (base p (mass_in xs) z))
       (mean_holds (Some n) (district_calls p n) refl))
 
-pub region_time_contained : (p : PlanParts) (parts : PartList) → IsAlwaysContained p parts (region_time_of p parts)
-region_time_contained p parts xs z h = region_contained p xs z parts h
+-- what holds of the region's time, and of each atom's, unit's and district's, holds of all
+all_times : (P : Enclosed → Type 0) (p : PlanParts) (parts : PartList) → P (region_time_of p parts)
+    → ((j : ℕ) → j < atoms p → P (atom_time p parts j)) → ((n : ℕ) → n < units p → P (unit_time p parts n))
+    → ((n : ℕ) → n < units p → P (district_time p parts n)) → All P (travel_times_of p parts)
+all_times P p parts region at_atoms of_units of_districts =
+    All-cons P (region_time_of p parts) ((atom_times_of p parts ++ unit_times_of p parts) ++ district_times_of p parts) region
+    (All-append P (atom_times_of p parts ++ unit_times_of p parts) (district_times_of p parts)
+    (All-append P (atom_times_of p parts) (unit_times_of p parts) (all_range P (atom_time p parts) (atoms p) at_atoms)
+    (all_range P (unit_time p parts) (units p) of_units))
+    (all_range P (district_time p parts) (units p) of_districts))
 
--- what is found of the region by these ends
-pub region_found : (p : PlanParts) (parts : PartList) (f : Found) → f ≡ ends_found (mean_ends p parts None (all_calls p))
-    → IsAlwaysContained p parts (record { measure = measure.Travel; found = f })
-region_found p parts f is =
-    subst (λ f. IsAlwaysContained p parts (record { measure = measure.Travel; found = f })) (sym is)
-    (region_time_contained p parts)
-
-pub atom_times_contained : (p : PlanParts) (parts : PartList) → AreContained p parts (atom_times_of p parts)
-atom_times_contained p parts xs z h =
-    all_range (IsContained p (mass_in xs) z) (atom_time p parts) (atoms p) (atom_contained p xs z parts h)
-
-pub unit_times_contained : (p : PlanParts) (parts : PartList) → AreContained p parts (unit_times_of p parts)
-unit_times_contained p parts xs z h =
-    all_range (IsContained p (mass_in xs) z) (unit_time p parts) (units p) (unit_contained p xs z parts h)
-
-pub district_times_contained : (p : PlanParts) (parts : PartList) → AreContained p parts (district_times_of p parts)
-district_times_contained p parts xs z h =
-    all_range (IsContained p (mass_in xs) z) (district_time p parts) (units p) (district_contained p xs z parts h)
+pub times_contained : (p : PlanParts) (parts : PartList) (xs : List ℕ) (z : ℕ) → HasParts p xs z parts
+    → AreContained p (mass_in xs) z (travel_times_of p parts)
+times_contained p parts xs z h =
+    all_times (IsContained p (mass_in xs) z) p parts (region_contained p xs z parts h) (atom_contained p xs z parts h)
+    (unit_contained p xs z parts h) (district_contained p xs z parts h)
 
 -- the measures are the plan's
-pub atom_times_in_range : (p : PlanParts) (parts : PartList) → All (IsOfPlan p) (atom_times_of p parts)
-atom_times_in_range p parts = all_range (IsOfPlan p) (atom_time p parts) (atoms p) (λ j i. i)
+pub times_in_range : (p : PlanParts) (parts : PartList) → All (λ e. IsInRange p e.measure) (travel_times_of p parts)
+times_in_range p parts = all_times (λ e. IsInRange p e.measure) p parts tt (λ j i. i) (λ n l. l) (λ n l. l)
 
-pub unit_times_in_range : (p : PlanParts) (parts : PartList) → All (IsOfPlan p) (unit_times_of p parts)
-unit_times_in_range p parts = all_range (IsOfPlan p) (unit_time p parts) (units p) (λ n l. l)
-
-pub district_times_in_range : (p : PlanParts) (parts : PartList) → All (IsOfPlan p) (district_times_of p parts)
-district_times_in_range p parts = all_range (IsOfPlan p) (district_time p parts) (units p) (λ n l. l)
-
--- and those without ends are of districts without calls
-pub district_times_without : (p : PlanParts) (parts : PartList) → All (HasEndsOnly p) (district_times_of p parts)
-district_times_without p parts =
-    all_range (HasEndsOnly p) (district_time p parts) (units p)
+-- and none is without ends but those of districts without calls
+pub times_without : (p : PlanParts) (parts : PartList) → All (HasEndsOnly p) (travel_times_of p parts)
+times_without p parts =
+    all_times (HasEndsOnly p) p parts refl (λ j i. refl) (λ n l. refl)
     (λ n l. absent_where (eqb (district_calls p n) 0) (mean_ends p parts (Some n) (district_calls p n)))

@@ -1,14 +1,11 @@
 -- Sums of rates and times: the totals that loops keep, and how large they become.
-use Rattle.std.proofs.Common.{◌≡◌, ℕ, zero, suc, ◌+◌, ◌*◌, ◌^◌, ◌<◌, ◌≤◌, Bool, true, false, cond, max, refl, sym, ap, ◌∙◌, inl, inr, arith}
+use Rattle.std.proofs.Common.{◌≡◌, ℕ, zero, suc, ◌+◌, ◌*◌, ◌<◌, ◌≤◌, ap, inl, inr, arith}
 use Rattle.std.proofs.lemmas.Bool.{cases_lt}
-use Rattle.std.proofs.Math.Nat.{mul-le-mul_left, mul-le-mul_right}
-use Rattle.std.proofs.lemmas.Nat.{mul-le}
 use Rattle.hyper_model.specs.declared.parts.PlanParts.{PlanParts}
 use Rattle.hyper_model.specs.Sums.{sum_below}
 use Rattle.hyper_model.specs.Plans.{units, atoms, calls_of, all_calls, travel, located, IsAccepted}
 use Rattle.hyper_model.specs.Measures.{mean_travel, travel_from_calls}
-use Rattle.hyper_model.proofs.Sums.{sum-le, sum-scaled}
-use Rattle.hyper_model.proofs.TravelTimes.{weighed_le, sum_grows}
+use Rattle.hyper_model.proofs.TravelTimes.{mean_travel-of_plan, weighed_le, sum_grows}
 use Rattle.travel_measures.specs.TravelEnds.{greatest_below, longest_to, longest_travel, longest_mean}
 
 -- the calls of the first atoms and of the next are at most all calls, and so 1,000,000
@@ -48,6 +45,7 @@ pub mean_fits : (p : PlanParts) → IsAccepted p → (n j : ℕ) → n < units p
 mean_fits p a n j l h =
     omega (
       arith,
+      mean_travel-of_plan p a n j,
       weighed_le (atoms p) (located p n) (λ k. travel p k j) (longest_travel p) (λ k inside. longest_reaches p k j inside h),
       ap (λ s. s * longest_travel p) (a.locations.whole n l),
     )

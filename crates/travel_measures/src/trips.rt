@@ -1,5 +1,6 @@
-ghost use Rattle.std.specs.Prelude.{◌≡◌, ℕ, ◌*◌, ◌^◌, ◌<◌, ◌≤◌};
-ghost use Rattle.fixed_interval.specs.Ends.{Ends, product_ends, scaled_ends};
+ghost use Rattle.std.specs.Prelude.{◌≡◌, ◌*◌, ◌^◌, ◌<◌, ◌≤◌};
+ghost use Rattle.fixed_interval.specs.Ends.{product_ends, scaled_ends};
+ghost use Rattle.hyper_model.specs.declared.TheConstants.{MOST_UNITS, MOST_ATOMS, MOST_RATE, MOST_TRAVEL};
 ghost use Rattle.hyper_model.specs.Plans.{IsAccepted, atoms, calls_of, units};
 ghost use Rattle.hyper_model.specs.Measures.{mean_travel};
 ghost use Rattle.busy_words.specs.Algebra.{where_ends};
@@ -17,7 +18,7 @@ pub(crate) fn all_trips(plan: &Plan, parts: &Parts, district: Option<usize>) -> 
     requires accepted { IsAccepted plan.now }
     requires sized { AreSizedFor plan.now parts.now }
     ensures ends { result ≡ all_trip_ends plan.now parts.now district }
-    ensures most { result.hi ≤ 12 * (1000000 * (100000000 * 2 ^ 62)) }
+    ensures most { result.hi ≤ MOST_UNITS * (MOST_RATE * (1000 * MOST_TRAVEL * 2 ^ 62)) }
 {
     let mut total = Wide::new(0, 0);
     for unit in 0..plan.units() {
@@ -32,7 +33,7 @@ pub(crate) fn unit_trips(plan: &Plan, parts: &Parts, district: Option<usize>, un
     requires sized { AreSizedFor plan.now parts.now }
     requires unit { unit < units plan.now }
     ensures ends { result ≡ trip_ends plan.now parts.now district unit }
-    ensures most { result.hi ≤ 1000000 * (100000000 * 2 ^ 62) }
+    ensures most { result.hi ≤ MOST_RATE * (1000 * MOST_TRAVEL * 2 ^ 62) }
 {
     let mut total = Wide::new(0, 0);
     for atom in 0..plan.atoms() {
@@ -41,7 +42,7 @@ pub(crate) fn unit_trips(plan: &Plan, parts: &Parts, district: Option<usize>, un
     total
 }
 
-// That of one unit to one atom, where it is among those of the district, else 0.
+// That of one unit to one atom, if it is among those of the district, else 0.
 fn trips_where(
     plan: &Plan,
     parts: &Parts,
@@ -55,7 +56,7 @@ fn trips_where(
     requires atom { atom < atoms plan.now }
     ensures ends { result ≡ where_ends (is_among_of plan.now district atom)
         (scaled_ends (calls_of plan.now atom * mean_travel plan.now unit atom) (taken_by parts.now unit atom)) }
-    ensures most { result.hi ≤ calls_of plan.now atom * (100000000 * 2 ^ 62) }
+    ensures most { result.hi ≤ calls_of plan.now atom * (1000 * MOST_TRAVEL * 2 ^ 62) }
 {
     if is_among(plan, district, atom) {
         trips(plan, parts, unit, atom)
@@ -70,7 +71,7 @@ fn trips(plan: &Plan, parts: &Parts, unit: usize, atom: usize) -> Wide
     requires unit { unit < units plan.now }
     requires atom { atom < atoms plan.now }
     ensures ends { result ≡ scaled_ends (calls_of plan.now atom * mean_travel plan.now unit atom) (taken_by parts.now unit atom) }
-    ensures most { result.hi ≤ calls_of plan.now atom * (100000000 * 2 ^ 62) }
+    ensures most { result.hi ≤ calls_of plan.now atom * (1000 * MOST_TRAVEL * 2 ^ 62) }
 {
     let part = parts.e(unit, atom).wide();
     let calls = u64::from(plan.atom(atom).rate);
@@ -83,7 +84,7 @@ pub(crate) fn trips_to(plan: &Plan, parts: &Parts, atom: usize) -> Wide
     requires sized { AreSizedFor plan.now parts.now }
     requires atom { atom < atoms plan.now }
     ensures ends { result ≡ trips_to_ends plan.now parts.now atom }
-    ensures most { result.hi ≤ 12 * (100000000 * 2 ^ 62) }
+    ensures most { result.hi ≤ MOST_UNITS * (1000 * MOST_TRAVEL * 2 ^ 62) }
 {
     let mut total = Wide::new(0, 0);
     for unit in 0..plan.units() {
@@ -98,7 +99,7 @@ fn part_trips(plan: &Plan, parts: &Parts, unit: usize, atom: usize) -> Wide
     requires unit { unit < units plan.now }
     requires atom { atom < atoms plan.now }
     ensures ends { result ≡ scaled_ends (mean_travel plan.now unit atom) (taken_by parts.now unit atom) }
-    ensures most { result.hi ≤ 100000000 * 2 ^ 62 }
+    ensures most { result.hi ≤ 1000 * MOST_TRAVEL * 2 ^ 62 }
 {
     let part = parts.e(unit, atom).wide();
     part.scaled(mean_time_to(plan, unit, atom))
@@ -109,7 +110,7 @@ pub(crate) fn taken_calls(plan: &Plan, parts: &Parts, unit: usize) -> Wide
     requires sized { AreSizedFor plan.now parts.now }
     requires unit { unit < units plan.now }
     ensures ends { result ≡ taken_ends plan.now parts.now unit }
-    ensures most { result.hi ≤ 200 * (1000000 * 2 ^ 62) }
+    ensures most { result.hi ≤ MOST_ATOMS * (MOST_RATE * 2 ^ 62) }
 {
     let mut total = Wide::new(0, 0);
     for atom in 0..plan.atoms() {
@@ -123,7 +124,7 @@ fn calls_taken(plan: &Plan, parts: &Parts, unit: usize, atom: usize) -> Wide
     requires unit { unit < units plan.now }
     requires atom { atom < atoms plan.now }
     ensures ends { result ≡ scaled_ends (calls_of plan.now atom) (taken_by parts.now unit atom) }
-    ensures most { result.hi ≤ 1000000 * 2 ^ 62 }
+    ensures most { result.hi ≤ MOST_RATE * 2 ^ 62 }
 {
     let part = parts.e(unit, atom).wide();
     part.scaled(u64::from(plan.atom(atom).rate))

@@ -10,15 +10,14 @@ use Rattle.plan_text.specs.declared.record.Record.TheVariants as rec
 use Rattle.plan_text.proofs.Over.{kept-all}
 use Rattle.atom_table.specs.Entries.{Entries}
 use Rattle.atom_table.specs.Pairs.{Given, table_of}
-use Rattle.atom_table.proofs.GivenValues.{table_of-all}
-use Rattle.travel_table.specs.Travel.{travel_of, trip_in, trips_in}
+use Rattle.atom_table.proofs.GivenValues.{given_for-value, table_of-all}
+use Rattle.travel_table.specs.Travel.{atom_place, travel_of, trip_in, trips_in}
 use Rattle.travel_table.proofs.TravelSteps.{travel_of-ok}
 
 -- the travel time of a record in form
 trip_within : (entries : Entries) (r : Record) → HasValues r → (given : Given) → trip_in entries r ≡ Some given → given.value ≤ 100000
 trip_within entries (rec.Travel at origin target seconds) values given is =
-    let e : seconds ≡ given.value = cc in
-    rw (sym e) values.2
+    rw (given_for-value (length entries.atoms) at seconds (atom_place entries origin) (atom_place entries target) given is) values.2
 trip_within entries _ values given is = absurd (cc)
 
 pub has_travel : (records : List Record) (entries : Entries) (table : Grid) (p : PlanParts) → All HasValues records

@@ -4,14 +4,13 @@ use Rattle.std.specs.Prelude.{Option, Some, None, Result, Ok, Err, find, not}
 use Rattle.std.specs.List.{range_with_len}
 use Rattle.std.specs.Option.{option_or}
 use Rattle.hyper_model.specs.Grid.{Grid}
-use Rattle.hyper_model.proofs.Grids.{place_within}
 use Rattle.plan_text.specs.Steps.{◌>>=◌, unless_refused}
 use Rattle.plan_text.specs.declared.record.Record.{Record}
 use Rattle.plan_text.specs.declared.record.Record.TheVariants as rec
 use Rattle.atom_table.specs.Entries.{Entries}
-use Rattle.atom_table.specs.Pairs.{PairTable, is_known, pair_of, pair_table_of, table_of}
-use Rattle.atom_table.proofs.GivenValues.{IsInside, first_gap-of}
-use Rattle.atom_table.proofs.OwnNames.{atom_place-within}
+use Rattle.atom_table.specs.Pairs.{PairTable, is_known, pair_table_of, table_of}
+use Rattle.atom_table.proofs.GivenValues.{IsInside, first_gap-of, given_for-inside}
+use Rattle.atom_table.proofs.OwnNames.{atom_of-within}
 use Rattle.travel_table.specs.Travel.{atom_place, first_missing, gap_refusal, travel_of, trip_in, trips_in, trips_refusal}
 use Rattle.travel_table.specs.declared.refusal.TravelRefusal.{TravelRefusal}
 
@@ -19,9 +18,8 @@ use Rattle.travel_table.specs.declared.refusal.TravelRefusal.{TravelRefusal}
 pub trip_in-inside : (entries : Entries) (r : Record) → 0 < length entries.atoms
     → IsInside (length entries.atoms) (length entries.atoms) (trip_in entries r)
 trip_in-inside entries (rec.Travel at origin target seconds) some given is =
-    let e : pair_of (length entries.atoms) (atom_place entries origin) (atom_place entries target) ≡ given.pair = cc in
-    rw (sym e) (place_within (length entries.atoms) (length entries.atoms) (atom_place entries origin) (atom_place entries target)
-    (atom_place-within entries.atoms origin some) (atom_place-within entries.atoms target some))
+    given_for-inside (length entries.atoms) (length entries.atoms) at seconds (atom_place entries origin) (atom_place entries target)
+    (atom_of-within entries.atoms origin) (atom_of-within entries.atoms target) given is
 trip_in-inside entries _ some given is = absurd (cc)
 
 -- the refusal of a gap, by the table

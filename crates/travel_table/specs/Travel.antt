@@ -6,29 +6,26 @@ use Rattle.hyper_model.specs.Grid.{Grid}
 use Rattle.plan_text.specs.Steps.{◌>>=◌, first_over, unless_refused}
 use Rattle.plan_text.specs.declared.record.Record.{Record}
 use Rattle.plan_text.specs.declared.record.Record.TheVariants as rec
-use Rattle.atom_table.specs.Names.{place_or_zero}
+use Rattle.atom_table.specs.Names.{place_of}
 use Rattle.atom_table.specs.Entries.{Entries, atom_names}
-use Rattle.atom_table.specs.Pairs.{Given, has_value, pair_of, table_of, twice}
+use Rattle.atom_table.specs.Pairs.{Given, given_for, has_value, table_of, twice}
 use Rattle.travel_table.specs.declared.refusal.TravelRefusal.{TravelRefusal}
 use Rattle.travel_table.specs.declared.refusal.TravelRefusal.TheVariants.{DuplicateTravel, MissingTravel}
 
 -- the place of the atom with this name
-abbrev pub atom_place : Entries → List ℕ → ℕ
-atom_place entries name = place_or_zero (atom_names entries.atoms) name
+abbrev pub atom_place : Entries → List ℕ → Option ℕ
+atom_place entries name = place_of (atom_names entries.atoms) name
 
 -- the travel time that a record gives for the pair of the atom from which and the atom to which
 abbrev pub trip_in : Entries → Record → Option Given
-trip_in entries (rec.Travel at origin target seconds) = Some (record {
-  at = at;
-  pair = pair_of (length entries.atoms) (atom_place entries origin) (atom_place entries target);
-  value = seconds;
-})
+trip_in entries (rec.Travel at origin target seconds) =
+    given_for (length entries.atoms) at seconds (atom_place entries origin) (atom_place entries target)
 trip_in entries _ = None
 
 abbrev pub trips_in : Entries → List Record → List Given
 trips_in entries records = filter_map (trip_in entries) records
 
--- a record behind others: none of these is for the same pair
+-- a record after others: none of these is for the same pair
 abbrev pub trip_refusal : Entries → List Record → Record → Option TravelRefusal
 trip_refusal entries before r = option_and_then (twice DuplicateTravel (has_value (trips_in entries before))) (trip_in entries r)
 

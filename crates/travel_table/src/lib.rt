@@ -4,8 +4,6 @@
 mod refusal;
 mod sharing;
 mod table;
-#[cfg(test)]
-mod tests;
 mod trips;
 
 pub use refusal::TravelRefusal;

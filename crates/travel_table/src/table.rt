@@ -43,7 +43,7 @@ impl TravelTable {
         })
     }
 
-    /// The table alone.
+    /// Only the table.
     pub fn into_table(self) -> Table
         ensures { result ≡ self }
     {

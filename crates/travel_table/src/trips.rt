@@ -42,7 +42,13 @@ fn take_trip(names: &AtomTable, item: &Record, trips: &mut PairValues) -> Result
     else {
         return Ok(())
     };
-    if trips.put(names.atom_place(from), names.atom_place(to), *seconds) {
+    let Some(origin) = names.atom_of(from) else {
+        return Ok(())
+    };
+    let Some(target) = names.atom_of(to) else {
+        return Ok(())
+    };
+    if trips.put(usize::from(origin), usize::from(target), *seconds) {
         Ok(())
     } else {
         Err(TravelRefusal::DuplicateTravel(u64::from(*at)))

@@ -6,17 +6,15 @@ use Rattle.std.specs.Option.{option_map, option_or}
 use Rattle.std.proofs.lemmas.Bool.Decides.{nat_tests}
 use Rattle.hyper_model.specs.Acceptance.{AreWhole}
 use Rattle.hyper_model.specs.Grid.{Grid}
-use Rattle.hyper_model.proofs.Grids.{place_within}
 use Rattle.plan_text.specs.Steps.{◌>>=◌, unless_refused}
 use Rattle.plan_text.specs.declared.record.Record.{Record}
 use Rattle.plan_text.specs.declared.record.Record.TheVariants as rec
 use Rattle.plan_text.proofs.Over.{option_or-none}
-use Rattle.atom_table.specs.Names.{place_or_zero}
+use Rattle.atom_table.specs.Names.{place_of}
 use Rattle.atom_table.specs.Entries.{Entries, atom_names, unit_names}
-use Rattle.atom_table.specs.Pairs.{pair_of}
 use Rattle.atom_table.proofs.FirstBelow.{find-here, find-more, find-none, numbers_from}
-use Rattle.atom_table.proofs.GivenValues.{IsInside}
-use Rattle.atom_table.proofs.OwnNames.{atom_place-within, unit_place-within}
+use Rattle.atom_table.proofs.GivenValues.{IsInside, given_for-inside}
+use Rattle.atom_table.proofs.OwnNames.{atom_of-within, unit_of-within}
 use Rattle.unit_location.specs.Located.{located_in, located_of, row_sum, share_in, shares_refusal, sums_refusal}
 use Rattle.unit_location.specs.declared.refusal.LocationRefusal.{LocationRefusal}
 use Rattle.unit_location.specs.declared.refusal.LocationRefusal.TheVariants.{LocationSum}
@@ -25,11 +23,8 @@ use Rattle.unit_location.specs.declared.refusal.LocationRefusal.TheVariants.{Loc
 pub share_in-inside : (entries : Entries) (r : Record) → 0 < length entries.units → 0 < length entries.atoms
     → IsInside (length entries.units) (length entries.atoms) (share_in entries r)
 share_in-inside entries (rec.Located at unit atom thousandths) units atoms given is =
-    let row = place_or_zero (unit_names entries.units) unit in
-    let col = place_or_zero (atom_names entries.atoms) atom in
-    let e : pair_of (length entries.atoms) (place_or_zero (unit_names entries.units) unit) (place_or_zero (atom_names entries.atoms) atom) ≡ given.pair = cc in
-    rw (sym e) (place_within (length entries.units) (length entries.atoms) row col
-    (unit_place-within entries.units unit units) (atom_place-within entries.atoms atom atoms))
+    given_for-inside (length entries.units) (length entries.atoms) at thousandths (place_of (unit_names entries.units) unit)
+    (place_of (atom_names entries.atoms) atom) (unit_of-within entries.units unit) (atom_of-within entries.atoms atom) given is
 share_in-inside entries _ units atoms given is = absurd (cc)
 
 -- in a table that is not refused each row sums to 1000

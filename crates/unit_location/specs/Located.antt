@@ -7,25 +7,22 @@ use Rattle.hyper_model.specs.Sums.{sum_below}
 use Rattle.plan_text.specs.Steps.{◌>>=◌, first_over, unless_refused}
 use Rattle.plan_text.specs.declared.record.Record.{Record}
 use Rattle.plan_text.specs.declared.record.Record.TheVariants as rec
-use Rattle.atom_table.specs.Names.{place_or_zero}
+use Rattle.atom_table.specs.Names.{place_of}
 use Rattle.atom_table.specs.Entries.{Entries, atom_names, unit_names}
-use Rattle.atom_table.specs.Pairs.{Given, has_value, pair_of, table_of, twice}
+use Rattle.atom_table.specs.Pairs.{Given, given_for, has_value, table_of, twice}
 use Rattle.unit_location.specs.declared.refusal.LocationRefusal.{LocationRefusal}
 use Rattle.unit_location.specs.declared.refusal.LocationRefusal.TheVariants.{DuplicateLocation, LocationSum}
 
 -- the thousandths that a record gives for the pair of a unit and an atom
 abbrev pub share_in : Entries → Record → Option Given
-share_in entries (rec.Located at unit atom thousandths) = Some (record {
-  at = at;
-  pair = pair_of (length entries.atoms) (place_or_zero (unit_names entries.units) unit) (place_or_zero (atom_names entries.atoms) atom);
-  value = thousandths;
-})
+share_in entries (rec.Located at unit atom thousandths) =
+    given_for (length entries.atoms) at thousandths (place_of (unit_names entries.units) unit) (place_of (atom_names entries.atoms) atom)
 share_in entries _ = None
 
 abbrev pub shares_in : Entries → List Record → List Given
 shares_in entries records = filter_map (share_in entries) records
 
--- a record behind others: none of these is for the same unit and atom
+-- a record after others: none of these is for the same unit and atom
 abbrev pub share_refusal : Entries → List Record → Record → Option LocationRefusal
 share_refusal entries before r = option_and_then (twice DuplicateLocation (has_value (shares_in entries before))) (share_in entries r)
 

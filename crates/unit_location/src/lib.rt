@@ -7,8 +7,6 @@ mod refusal;
 mod share_sums;
 mod shares;
 mod sharing;
-#[cfg(test)]
-mod tests;
 
 pub use locations::Locations;
 pub use mean_time::mean_thousandths;

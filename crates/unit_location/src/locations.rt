@@ -30,7 +30,7 @@ impl Model for Locations {
 }
 
 impl Locations {
-    /// The thousandths that the records give for the units and atoms of the table, 0 where there is no record.
+    /// The thousandths that the records give for the units and atoms of the table, 0 if there is no record.
     ///
     /// First each record has to be for a unit and an atom that no earlier one has: the first record that is not is
     /// refused. Then the thousandths of each unit have to sum to 1000: the first unit of which they do not is refused.
@@ -55,7 +55,7 @@ impl Locations {
         &self.table
     }
 
-    /// The table alone.
+    /// Only the table.
     pub fn into_table(self) -> Table
         ensures table { result ≡ self }
         ensures whole { AreWhole result }

@@ -44,7 +44,13 @@ fn take_share(
     else {
         return Ok(())
     };
-    if shares.put(names.unit_place(unit), names.atom_place(atom), *thousandths) {
+    let Some(row) = names.unit_of(unit) else {
+        return Ok(())
+    };
+    let Some(col) = names.atom_of(atom) else {
+        return Ok(())
+    };
+    if shares.put(usize::from(row), usize::from(col), *thousandths) {
         Ok(())
     } else {
         Err(LocationRefusal::DuplicateLocation(u64::from(*at)))

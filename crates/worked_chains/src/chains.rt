@@ -46,7 +46,7 @@ fn push_row(entries: &mut Vec<Ends>, m: &RateMatrix, i: usize) -> Result<(), All
 }
 
 /// The chain's dense matrix after the elimination.
-pub(crate) fn reduced(alloc: Global, chain: &WordChain) -> Result<RateMatrix, AllocError> {
+pub(crate) fn dense_left(alloc: Global, chain: &WordChain) -> Result<RateMatrix, AllocError> {
     let mut m = RateMatrix::dense(alloc, chain)?;
     let mut scratch = Row::reserved(alloc, m.size())?;
     reduce(&mut m, &mut scratch);
@@ -54,7 +54,7 @@ pub(crate) fn reduced(alloc: Global, chain: &WordChain) -> Result<RateMatrix, Al
 }
 
 /// The chain's packed matrix after the elimination.
-pub(crate) fn reduced_packed(alloc: Global, chain: &WordChain) -> Result<RateMatrix, AllocError>
+pub(crate) fn packed_left(alloc: Global, chain: &WordChain) -> Result<RateMatrix, AllocError>
     ensures { IfOk result (λ m. m.alive ≡ 1) }
 {
     let mut m = RateMatrix::packed(alloc, chain)?;
@@ -64,7 +64,7 @@ pub(crate) fn reduced_packed(alloc: Global, chain: &WordChain) -> Result<RateMat
 }
 
 /// The chain's packed matrix after the elimination by so many workers.
-pub(crate) fn reduced_by_workers<R: Threads + Sync>(
+pub(crate) fn left_by_workers<R: Threads + Sync>(
     rt: &R,
     alloc: Global,
     chain: &WordChain,
@@ -82,7 +82,7 @@ pub(crate) fn reduced_by_workers<R: Threads + Sync>(
 /// The ends of a plan's weights by rank, and behind them of that of the calls that wait.
 pub(crate) fn weights_of(alloc: Global, plan: &Plan) -> Result<Vec<Ends>, AllocError> {
     let order = order_of(alloc, plan)?;
-    let m = reduced_packed(alloc, &WordChain::of(plan, &order))?;
+    let m = packed_left(alloc, &WordChain::of(plan, &order))?;
     let mut weights = Weights::reserved(alloc, m.size() + 1)?;
     solve_back(&m, &mut weights);
     if plan.line() == Line::Infinite {

@@ -11,8 +11,8 @@ mod eliminations;
 #[cfg(test)]
 mod plain;
 #[cfg(test)]
-mod rates;
+mod plans;
 #[cfg(test)]
-mod texts;
+mod rates;
 #[cfg(test)]
 mod weights;

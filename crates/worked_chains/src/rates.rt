@@ -1,10 +1,11 @@
 use crate::chains::{entries_of, order_of};
-use crate::texts::{ONE_GROUP, OPPOSITE_LISTS, grid_plan, made_plan, plan_of};
+use crate::plans::{grid_plan, made_plan, plan_of};
 use hyper_model::Plan;
 use rate_matrix::{RateMatrix, WordChain};
 use std::alloc::Global;
 use std::process::Abort;
 use std::test::Fail;
+use worked_plans::{ONE_GROUP, TWO_UNITS};
 
 // From none busy, from the first unit busy, from the second busy, and from both: one call, two calls and three
 // services in the scale 2^62 over the 8 calls and services of an hour.
@@ -26,8 +27,8 @@ const OPPOSITE_RATES: [u128; 12] = [
 const OPPOSITE_OUTFLOWS: [u64; 4] = [2, 5, 5, 6];
 
 #[test]
-fn two_units_with_opposite_lists(rt: HostRuntime) -> Result<(), Fail> {
-    let plan = plan_of(rt.alloc(), OPPOSITE_LISTS)?;
+fn rates_of_two_units_with_opposite_lists(rt: HostRuntime) -> Result<(), Fail> {
+    let plan = plan_of(rt.alloc(), TWO_UNITS)?;
     let order = order_of(rt.alloc(), &plan)?;
     let chain = WordChain::of(&plan, &order);
     has_opposite_rates(&rt, rt.alloc(), &RateMatrix::dense(rt.alloc(), &chain)?)?;
@@ -50,10 +51,10 @@ fn has_opposite_rates(rt: &impl Abort, alloc: Global, m: &RateMatrix) -> Result<
 
 #[test]
 fn both_forms_have_one_matrix(rt: HostRuntime) -> Result<(), Fail> {
-    forms_agree(&rt, rt.alloc(), &plan_of(rt.alloc(), OPPOSITE_LISTS)?)?;
+    forms_agree(&rt, rt.alloc(), &plan_of(rt.alloc(), TWO_UNITS)?)?;
     forms_agree(&rt, rt.alloc(), &plan_of(rt.alloc(), ONE_GROUP)?)?;
     forms_agree(&rt, rt.alloc(), &grid_plan(rt.alloc())?)?;
-    forms_agree(&rt, rt.alloc(), &made_plan(rt.alloc())?)
+    forms_agree(&rt, rt.alloc(), &made_plan(rt.alloc(), 8, 1)?)
 }
 
 fn forms_agree(rt: &impl Abort, alloc: Global, plan: &Plan) -> Result<(), Fail> {

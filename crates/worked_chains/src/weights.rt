@@ -1,14 +1,15 @@
-use crate::chains::{Ends, entries_of, order_of, reduced, weights_of};
+use crate::chains::{Ends, dense_left, entries_of, order_of, weights_of};
 use crate::plain::Plain;
-use crate::texts::{
-    ONE_GROUP, ONE_UNIT, ONE_UNIT_WITH_A_QUEUE, OPPOSITE_LISTS, grid_plan, made_plan,
-    overloaded_plan, plan_of, swamped_plan,
-};
+use crate::plans::{grid_plan, made_plan, plan_of};
 use hyper_model::Plan;
 use rate_matrix::{RateMatrix, WordChain};
 use std::alloc::Global;
 use std::process::Abort;
 use std::test::Fail;
+use worked_plans::{
+    ALL_BUT_FULL, ONE_GROUP, SEVEN_OVERLOADED, SEVEN_SWAMPED, THIRD_LOAD, THIRD_LOAD_WITH_A_QUEUE,
+    TWO_UNITS,
+};
 
 const FIRST: u128 = 1 << 52;
 
@@ -20,24 +21,32 @@ const OPPOSITE: [Ends; 4] = [
     (1_000_799_917_193_443, 1_000_799_917_193_444),
 ];
 
-// What the rounding leaves of the thirds and ninths of the first weight, worked by hand.
+const THIRD: Ends = (1_501_199_875_790_165, 1_501_199_875_790_166);
+
+const NINTH: Ends = (750_599_937_895_082, 750_599_937_895_083);
+
+// After twenty halvings, so that the weight of the calls that wait fits.
+const HALVED: [Ends; 3] = [
+    (1 << 32, 1 << 32),
+    (4_294_963_001, 4_294_963_002),
+    (4_294_958_706_069_702, 4_294_958_706_069_704),
+];
+
+// What the rounding leaves of the parts of the first weight, worked by hand.
+const FEW: [(&str, &[Ends]); 5] = [
+    (THIRD_LOAD, &[(FIRST, FIRST), THIRD]),
+    (THIRD_LOAD_WITH_A_QUEUE, &[(FIRST, FIRST), THIRD, NINTH]),
+    (ALL_BUT_FULL, &HALVED),
+    (TWO_UNITS, &OPPOSITE),
+    (ONE_GROUP, &OPPOSITE),
+];
+
 #[test]
-fn few_units(rt: HostRuntime) -> Result<(), Fail> {
-    let third = (1_501_199_875_790_165, 1_501_199_875_790_166);
-    let tail = (750_599_937_895_082, 750_599_937_895_083);
-    let cases: [(&str, &[Ends]); 4] = [
-        (ONE_UNIT, &[(FIRST, FIRST), third]),
-        (ONE_UNIT_WITH_A_QUEUE, &[(FIRST, FIRST), third, tail]),
-        (OPPOSITE_LISTS, &OPPOSITE),
-        (ONE_GROUP, &OPPOSITE),
-    ];
-    for (text, wanted) in cases {
+fn weights_of_few_units(rt: HostRuntime) -> Result<(), Fail> {
+    for (text, wanted) in FEW {
         let plan = plan_of(rt.alloc(), text)?;
-        assert_eq!(rt;
-            weights_of(rt.alloc(), &plan)?.as_slice(),
-            wanted,
-            "of {text}"
-        );
+        let weights = weights_of(rt.alloc(), &plan)?;
+        assert_eq!(rt; weights.as_slice(), wanted, "of {text}");
     }
     Ok(())
 }
@@ -82,11 +91,21 @@ const MADE: [(usize, Ends); 6] = [
 ];
 
 #[test]
-fn more_units(rt: HostRuntime) -> Result<(), Fail> {
-    weigh(&rt, rt.alloc(), &overloaded_plan(rt.alloc())?, &OVERLOADED)?;
-    weigh(&rt, rt.alloc(), &swamped_plan(rt.alloc())?, &SWAMPED)?;
+fn weights_of_more_units(rt: HostRuntime) -> Result<(), Fail> {
+    weigh(
+        &rt,
+        rt.alloc(),
+        &plan_of(rt.alloc(), SEVEN_OVERLOADED)?,
+        &OVERLOADED,
+    )?;
+    weigh(
+        &rt,
+        rt.alloc(),
+        &plan_of(rt.alloc(), SEVEN_SWAMPED)?,
+        &SWAMPED,
+    )?;
     weigh(&rt, rt.alloc(), &grid_plan(rt.alloc())?, &GRID)?;
-    weigh(&rt, rt.alloc(), &made_plan(rt.alloc())?, &MADE)
+    weigh(&rt, rt.alloc(), &made_plan(rt.alloc(), 8, 1)?, &MADE)
 }
 
 fn weigh(
@@ -131,10 +150,15 @@ fn plain_loops_find_the_same(rt: HostRuntime) -> Result<(), Fail> {
     compare(
         &rt,
         rt.alloc(),
-        &overloaded_plan(rt.alloc())?,
+        &plan_of(rt.alloc(), SEVEN_OVERLOADED)?,
         &OVERLOADED_LEFT,
     )?;
-    compare(&rt, rt.alloc(), &swamped_plan(rt.alloc())?, &SWAMPED_LEFT)
+    compare(
+        &rt,
+        rt.alloc(),
+        &plan_of(rt.alloc(), SEVEN_SWAMPED)?,
+        &SWAMPED_LEFT,
+    )
 }
 
 fn compare(
@@ -150,7 +174,7 @@ fn compare(
     for (i, j, ends) in left {
         assert_eq!(rt; plain.at(*i, *j), *ends, "from {i} to {j}");
     }
-    let entries = entries_of(alloc, &reduced(alloc, &chain)?)?;
+    let entries = entries_of(alloc, &dense_left(alloc, &chain)?)?;
     assert!(rt; plain.entries(alloc)? == entries);
     assert!(rt; plain.weights(alloc)? == weights_of(alloc, plan)?);
     Ok(())

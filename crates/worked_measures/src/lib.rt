@@ -1,9 +1,9 @@
-//! Worked plans, from their texts to the ends of all their measures: tests alone.
+//! Worked plans and the ends of all their measures, as the solver finds them and from solutions by hand: tests alone.
 #![tactic(auto)]
 
 #[cfg(test)]
-mod plans;
+mod by_hand;
 #[cfg(test)]
-mod solving;
+mod plans;
 #[cfg(test)]
 mod tests;

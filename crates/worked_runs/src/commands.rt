@@ -1,198 +1,164 @@
-use crate::plans::{THIRD_LOAD, THREE_UNITS};
-use crate::reports::{THIRD_LOAD_REPORT, THIRD_LOAD_SUMMARY, USAGE};
-use crate::shelves::{texts_of, words_of};
-use hyper_model::Measure;
-use hypercube_cli::{Outcome, Refusal, hypercube, status};
-use outer_world::{FileShelf, MemoryShelf, MemorySink, StdoutSink, SureShelf, SureSink};
-use plan_compare::StudyRefusal;
-use plan_maker::MakeRefusal;
-use plan_reader::PlanRefusal;
-use rate_matrix::OpenGate;
-use std::fs;
+use crate::cases::Text::Plain;
+use crate::cases::Written::{self, Begins, Lines, Whole};
+use crate::cases::{Case, check};
+use crate::reports::{THIRD_LOAD_REPORT, THIRD_LOAD_SUMMARY};
+use hypercube_cli::{Command, WordsEnd, read_words};
+use plan_maker::{MakeRefusal, make};
+use std::alloc::{AllocError, Global};
 use std::test::Fail;
+use worked_plans::THIRD_LOAD;
 
 #[test]
-fn answers_each_command(rt: HostRuntime) -> Result<(), Fail> {
-    let cases: [(&str, Outcome, &str, u8); 16] = [
-        ("solve a.csv", Outcome::Done, THIRD_LOAD_REPORT, 0),
-        (
-            "--summary solve a.csv --width=2",
-            Outcome::Done,
-            THIRD_LOAD_SUMMARY,
-            0,
-        ),
-        (
-            "solve a.csv --workers 3",
-            Outcome::Done,
-            THIRD_LOAD_REPORT,
-            0,
-        ),
-        ("solve x.csv", Outcome::Absent(1), "", 4),
-        ("solve -- -x.csv", Outcome::Absent(1), "", 4),
-        ("solve", Outcome::Usage, USAGE, 1),
-        ("solve a.csv --width 1", Outcome::Usage, USAGE, 1),
-        ("solve a.csv --width=5 --width 6", Outcome::Usage, USAGE, 1),
-        ("solve a.csv --workers 17", Outcome::Usage, USAGE, 1),
-        ("solve a.csv -x", Outcome::Usage, USAGE, 1),
-        ("make 2 0 --workers 1", Outcome::Usage, USAGE, 1),
-        (
-            "make 1 0",
-            Outcome::Refused(Refusal::Make(MakeRefusal::MakeRange)),
-            "refused,0,70\n",
-            2,
-        ),
-        (
-            "make 11 0",
-            Outcome::Refused(Refusal::Make(MakeRefusal::MakeRange)),
-            "refused,0,70\n",
-            2,
-        ),
-        (
-            "compare a.csv",
-            Outcome::Refused(Refusal::Study(StudyRefusal::BadStudy)),
-            "refused,0,60\n",
-            2,
-        ),
-        ("compare s.toml", Outcome::Absent(0), "", 4),
-        (
-            "make 2 4294967296",
-            Outcome::Refused(Refusal::Make(MakeRefusal::MakeRange)),
-            "refused,0,70\n",
-            2,
-        ),
-    ];
-    for (line, outcome, written, code) in &cases {
-        let words = words_of(rt.alloc(), line)?;
-        let texts = texts_of(rt.alloc(), &[("a.csv", THIRD_LOAD.as_bytes())])?;
-        let mut shelf = SureShelf::of(&texts, 7);
-        let mut sink = SureSink::of(11);
-        let got = hypercube(&rt, rt.alloc(), &words, &mut shelf, &mut sink, &OpenGate);
-        assert_eq!(rt; got, *outcome);
-        assert_eq!(rt; sink.bytes(), written.as_bytes());
-        assert_eq!(rt; status(&got), *code);
-    }
-    Ok(())
-}
-
-#[test]
-fn refuses_texts(rt: HostRuntime) -> Result<(), Fail> {
-    let cases: [(&str, PlanRefusal, &str); 3] = [
-        ("", PlanRefusal::NoUnits, "refused,1,15\n"),
-        (
-            "unit,A,0\n",
-            PlanRefusal::BadNumber(1, 3),
-            "refused,1,5,1,3\n",
-        ),
-        (
-            "line,infinite\nunit,A,1\natom,P,1,0,0,A\ntravel,P,P,300\nat,A,P,1000\nprefer,P,A\n",
-            PlanRefusal::NotStable(1, 1),
-            "refused,1,52,1,1\n",
-        ),
-    ];
-    for (text, refusal, written) in &cases {
-        let words = words_of(rt.alloc(), "solve a.csv")?;
-        let texts = texts_of(rt.alloc(), &[("a.csv", text.as_bytes())])?;
-        let mut shelf = SureShelf::of(&texts, 7);
-        let mut sink = SureSink::of(11);
-        let got = hypercube(&rt, rt.alloc(), &words, &mut shelf, &mut sink, &OpenGate);
-        assert_eq!(rt; got, Outcome::Refused(Refusal::Plan(1, *refusal)));
-        assert_eq!(rt; sink.bytes(), written.as_bytes());
-    }
-    Ok(())
-}
-
-/// The times in front of the one that is told are narrow, so that the least width tells the same.
-#[test]
-fn tells_what_is_too_wide(rt: HostRuntime) -> Result<(), Fail> {
-    for line in ["solve a.csv --time-width 12", "solve a.csv --time-width 2"] {
-        let words = words_of(rt.alloc(), line)?;
-        let texts = texts_of(rt.alloc(), &[("a.csv", THREE_UNITS.as_bytes())])?;
-        let mut shelf = SureShelf::of(&texts, 1000);
-        let mut sink = SureSink::of(1000);
-        let got = hypercube(&rt, rt.alloc(), &words, &mut shelf, &mut sink, &OpenGate);
-        assert_eq!(rt;
-            got,
-            Outcome::TooWide(1, Measure::TravelUnit(2), 299_987, 300_000)
-        );
-        assert_eq!(rt;
-            sink.bytes(),
-            b"toowide,1,travel-unit,C,299.987,300.000\n".as_slice()
-        );
-        assert_eq!(rt; status(&got), 3);
-    }
-    Ok(())
-}
-
-#[test]
-fn refuses_a_text_of_one_byte_too_many(rt: HostRuntime) -> Result<(), Fail> {
-    let words = words_of(rt.alloc(), "solve a.csv")?;
-    let text = vec![in rt.alloc(); b'#'; 4_194_305]?;
-    let texts = texts_of(rt.alloc(), &[("a.csv", &text)])?;
-    let mut shelf = SureShelf::of(&texts, 1 << 20);
-    let mut sink = SureSink::of(100);
-    let got = hypercube(&rt, rt.alloc(), &words, &mut shelf, &mut sink, &OpenGate);
-    assert_eq!(rt;
-        got,
-        Outcome::Refused(Refusal::Plan(1, PlanRefusal::TooLong(4_194_305)))
-    );
-    assert_eq!(rt; sink.bytes(), b"refused,1,2,4194305\n".as_slice());
-    Ok(())
-}
-
-#[test]
-fn tells_a_fault_of_each_reading(rt: HostRuntime) -> Result<(), Fail> {
-    for call in 1..11 {
-        let words = words_of(rt.alloc(), "solve a.csv")?;
-        let texts = texts_of(rt.alloc(), &[("a.csv", THIRD_LOAD.as_bytes())])?;
-        let fails = [call];
-        let mut shelf = MemoryShelf::of(&texts, 10, &fails);
-        let mut sink = SureSink::of(1000);
-        let got = hypercube(&rt, rt.alloc(), &words, &mut shelf, &mut sink, &OpenGate);
-        let (outcome, written) = if call < 10 {
-            (Outcome::ReadFault, "")
-        } else {
-            (Outcome::Done, THIRD_LOAD_REPORT)
+fn command_lines_end_so(rt: HostRuntime) -> Result<(), Fail> {
+    for (line, status, written) in ENDED {
+        let case = Case {
+            name: line,
+            line,
+            text: Plain(THIRD_LOAD),
+            status,
+            written,
         };
-        assert_eq!(rt; got, outcome);
-        assert_eq!(rt; sink.bytes(), written.as_bytes());
+        check(&rt, rt.alloc(), &case)?;
     }
     Ok(())
 }
 
+/// A command line, the status of its end, and what is written.
+type Ended = (&'static str, u8, Written);
+
+const USAGE: &str = "\
+usage: hypercube solve FILE | compare STUDY | make UNITS NUMBER [--width W] [--time-width W] [--workers N] [--summary]
+";
+
+const ENDED: [Ended; 20] = [
+    ("solve a.csv", 0, Whole(THIRD_LOAD_REPORT)),
+    (
+        "--summary solve a.csv --width=2",
+        0,
+        Whole(THIRD_LOAD_SUMMARY),
+    ),
+    ("solve a.csv --workers 3", 0, Whole(THIRD_LOAD_REPORT)),
+    ("solve x.csv", 4, Whole("")),
+    ("solve -- -y.csv", 4, Whole("")),
+    ("solve", 1, Whole(USAGE)),
+    ("solve a.csv --width 1", 1, Whole(USAGE)),
+    ("solve a.csv --width=5 --width 6", 1, Whole(USAGE)),
+    ("solve a.csv --workers 17", 1, Whole(USAGE)),
+    ("solve a.csv -x", 1, Whole(USAGE)),
+    ("compare a.csv", 2, Whole("refused,0,60\n")),
+    ("compare x.toml", 4, Whole("")),
+    ("make 2 0 --workers 1", 1, Whole(USAGE)),
+    ("make 1 0", 2, Whole("refused,0,70\n")),
+    ("make 11 0", 2, Whole("refused,0,70\n")),
+    ("make 2 4294967296", 2, Whole("refused,0,70\n")),
+    ("make 11 999999999999999999", 2, Whole("refused,0,70\n")),
+    ("make 2 0", 0, Begins(MADE_HEAD)),
+    ("make 000000000000000002 0", 0, Begins(MADE_HEAD)),
+    (
+        "make -- 02 00",
+        0,
+        Lines(&["travel,A1,A2,664", "travel,A8,A7,638", "at,U2,A4,300"]),
+    ),
+];
+
+/// How a made plan of two units begins, and how it ends.
+const MADE_HEAD: &str = "\
+version,1
+line,zero
+rule,modified
+period,3600
+unit,U1,20
+unit,U2,20
+atom,A1,3,8256,3708,U1
+atom,A2,2,5170,750,U2
+atom,A3,3,1945,3277,U1
+";
+
+const MADE_END: &str = "\
+travel,A8,A7,638
+travel,A8,A8,60
+at,U1,A1,700
+at,U1,A3,300
+at,U2,A2,700
+at,U2,A4,300
+";
+
 #[test]
-fn tells_a_fault_of_each_writing(rt: HostRuntime) -> Result<(), Fail> {
-    for call in 1..6 {
-        let words = words_of(rt.alloc(), "solve a.csv")?;
-        let texts = texts_of(rt.alloc(), &[("a.csv", THIRD_LOAD.as_bytes())])?;
-        let mut shelf = SureShelf::of(&texts, 1000);
-        let fails = [call];
-        let mut sink = MemorySink::of(100, &fails);
-        let got = hypercube(&rt, rt.alloc(), &words, &mut shelf, &mut sink, &OpenGate);
-        let outcome = if call < 5 {
-            Outcome::WriteFault
-        } else {
-            Outcome::Done
-        };
-        assert_eq!(rt; got, outcome);
-        let taken = THIRD_LOAD_REPORT.len().min(100 * (call as usize - 1));
-        assert_eq!(rt; sink.bytes().len(), taken);
-        assert!(rt; THIRD_LOAD_REPORT.as_bytes().starts_with(sink.bytes()));
+fn made_plans_of_two_and_of_ten_units(rt: HostRuntime) -> Result<(), Fail> {
+    let text = make(rt.alloc(), 2, 0)?;
+    assert!(rt; text.ends_with(MADE_END.as_bytes()));
+    assert_eq!(rt; text.len(), 1391);
+    assert_eq!(rt; make(rt.alloc(), 10, 7)?.len(), 31331);
+    assert_eq!(rt; make(rt.alloc(), 1, 0).err(), Some(MakeRefusal::MakeRange));
+    Ok(())
+}
+
+/// The text of a made plan.
+pub(crate) fn made_text(alloc: Global, units: u64, number: u64) -> Result<Vec<u8>, Fail> {
+    Ok(make(alloc, units, number)?)
+}
+
+/// Arguments with a blank between them.
+pub(crate) fn read(alloc: Global, line: &str) -> Result<Result<Command, WordsEnd>, AllocError> {
+    let mut words = Vec::new(alloc);
+    for word in line.split(' ') {
+        words
+            .push(String::from_str(alloc, word)?)
+            .map_err(|_| AllocError)?;
+    }
+    Ok(read_words(alloc, &words))
+}
+
+/// Arguments, and the units and the number of the plan that they ask for.
+const ASKED: [(&str, u64, u64); 6] = [
+    ("make 2 0", 2, 0),
+    ("make 02 0", 2, 0),
+    ("make -- 10 7", 10, 7),
+    ("make 0 4294967296", 0, 4_294_967_296),
+    ("make 000000000000000012 1", 12, 1),
+    ("make 11 999999999999999999", 11, 999_999_999_999_999_999),
+];
+
+#[test]
+fn units_and_numbers_of_plans_to_be_made(rt: HostRuntime) -> Result<(), Fail> {
+    for (line, units, number) in ASKED {
+        assert_eq!(rt;
+            read(rt.alloc(), line)?,
+            Ok(Command::Make { units, number })
+        );
     }
     Ok(())
 }
 
+/// Among them words that are empty: before a first blank, after a last one, and between two.
+const NO_COMMANDS: &str = " \n\
+    a.csv\n\
+    solve\n\
+    solve \n\
+    Solve a.csv\n\
+    solve a.csv b.csv\n\
+    solve  a.csv\n\
+    solve -- a.csv --summary\n\
+    -- solve a.csv --\n\
+    compare\n\
+    compare s.toml t.toml\n\
+    compare s.toml --summary\n\
+    make\n\
+    make 2\n\
+    make 2 \n\
+    make 2 0 0\n\
+    make -- -2 0\n\
+    make +2 0\n\
+    make 2 1000000000000000000\n\
+    make 0000000000000000002 0\n\
+    make 2 0 --workers 1\n\
+    make --summary 2 0";
+
 #[test]
-fn solves_a_real_file(rt: HostRuntime) -> Result<(), Fail> {
-    let file = "/tmp/hypercube-third-load-plan.csv";
-    fs::write(&rt, file, THIRD_LOAD)?;
-    let words = words_of(
-        rt.alloc(),
-        "solve /tmp/hypercube-third-load-plan.csv --summary",
-    )?;
-    let mut shelf = FileShelf::of(&rt);
-    let mut sink = StdoutSink::of(&rt);
-    let got = hypercube(&rt, rt.alloc(), &words, &mut shelf, &mut sink, &OpenGate);
-    fs::remove_file(&rt, file)?;
-    assert_eq!(rt; got, Outcome::Done);
+fn plain_words_that_give_no_command(rt: HostRuntime) -> Result<(), Fail> {
+    for line in NO_COMMANDS.lines() {
+        assert_eq!(rt; read(rt.alloc(), line)?, Err(WordsEnd::NoCommand), "{line}");
+    }
+    assert_eq!(rt; read_words(rt.alloc(), &[]), Err(WordsEnd::NoCommand));
     Ok(())
 }

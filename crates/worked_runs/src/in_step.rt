@@ -1,13 +1,11 @@
-use crate::plans::TWO_UNITS;
-use crate::shelves::{texts_of, words_of};
+use crate::cases::run;
 use fixed_interval::Iv;
-use hypercube_cli::{Outcome, hypercube};
-use outer_world::{SureShelf, SureSink};
+use hypercube_cli::Outcome;
 use rate_matrix::{Gate, OpenGate};
 use std::sync::atomic::{AtomicBool, AtomicU64, Ordering};
 use std::test::Fail;
 
-const STUDY: &str = "plans = [\"two.csv\", \"two.csv\"]\nmeasures = [\"loss\"]\n";
+const STUDY: &[u8] = b"plans = [\"two.csv\", \"two.csv\"]\nmeasures = [\"loss\"]\n";
 
 /// A gate at which each cell of one plan waits for the like-numbered cell of the other, until a wait has failed.
 #[derive(Drop)]
@@ -66,18 +64,8 @@ impl Gate for InStep {
 
 #[test]
 fn two_plans_of_a_study_go_in_step(rt: HostRuntime) -> Result<(), Fail> {
-    let words = words_of(rt.alloc(), "compare s.toml --workers 2")?;
-    let texts = texts_of(
-        rt.alloc(),
-        &[
-            ("s.toml", STUDY.as_bytes()),
-            ("two.csv", TWO_UNITS.as_bytes()),
-        ],
-    )?;
-    let mut shelf = SureShelf::of(&texts, 1000);
-    let mut sink = SureSink::of(10000);
     let gate = InStep::of(100_000_000);
-    let got = hypercube(&rt, rt.alloc(), &words, &mut shelf, &mut sink, &gate);
+    let (got, _) = run(&rt, rt.alloc(), "compare s.toml --workers 2", STUDY, &gate)?;
     assert_eq!(rt; got, Outcome::Done);
     assert!(rt; gate.had_both());
     assert!(rt; !gate.has_failed());
@@ -86,18 +74,8 @@ fn two_plans_of_a_study_go_in_step(rt: HostRuntime) -> Result<(), Fail> {
 
 #[test]
 fn one_worker_solves_one_plan_after_the_other(rt: HostRuntime) -> Result<(), Fail> {
-    let words = words_of(rt.alloc(), "compare s.toml --workers 1")?;
-    let texts = texts_of(
-        rt.alloc(),
-        &[
-            ("s.toml", STUDY.as_bytes()),
-            ("two.csv", TWO_UNITS.as_bytes()),
-        ],
-    )?;
-    let mut shelf = SureShelf::of(&texts, 1000);
-    let mut sink = SureSink::of(10000);
     let gate = InStep::of(1000);
-    let got = hypercube(&rt, rt.alloc(), &words, &mut shelf, &mut sink, &gate);
+    let (got, _) = run(&rt, rt.alloc(), "compare s.toml --workers 1", STUDY, &gate)?;
     assert_eq!(rt; got, Outcome::Done);
     assert!(rt; gate.has_failed());
     Ok(())

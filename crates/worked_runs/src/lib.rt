@@ -6,13 +6,11 @@ mod cases;
 #[cfg(test)]
 mod commands;
 #[cfg(test)]
-mod grid;
+mod faults;
 #[cfg(test)]
 mod in_step;
 #[cfg(test)]
 mod meeting;
-#[cfg(test)]
-mod plans;
 #[cfg(test)]
 mod refused;
 #[cfg(test)]
@@ -25,3 +23,5 @@ mod shelves;
 mod solved;
 #[cfg(test)]
 mod studies;
+#[cfg(test)]
+mod words;

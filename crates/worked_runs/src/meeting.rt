@@ -1,11 +1,10 @@
-use crate::plans::THREE_UNITS;
-use crate::shelves::{texts_of, words_of};
+use crate::cases::run;
 use fixed_interval::Iv;
-use hypercube_cli::{Outcome, hypercube};
-use outer_world::{SureShelf, SureSink};
+use hypercube_cli::Outcome;
 use rate_matrix::{Gate, OpenGate};
 use std::sync::atomic::{AtomicBool, Ordering};
 use std::test::Fail;
+use worked_plans::THREE_UNITS;
 
 /// A gate at which the first cell of row 4 and that of row 6 look for each other. Where the full one of eight words
 /// goes, the rows 4, 5 and 6 change, in two chunks for two workers.
@@ -60,12 +59,9 @@ impl Gate for Meeting {
 
 #[test]
 fn two_workers_meet_in_one_elimination(rt: HostRuntime) -> Result<(), Fail> {
-    let words = words_of(rt.alloc(), "solve a.csv --workers 2")?;
-    let texts = texts_of(rt.alloc(), &[("a.csv", THREE_UNITS.as_bytes())])?;
-    let mut shelf = SureShelf::of(&texts, 1000);
-    let mut sink = SureSink::of(10000);
     let gate = Meeting::of(100_000_000);
-    let got = hypercube(&rt, rt.alloc(), &words, &mut shelf, &mut sink, &gate);
+    let text = THREE_UNITS.as_bytes();
+    let (got, _) = run(&rt, rt.alloc(), "solve a.csv --workers 2", text, &gate)?;
     assert_eq!(rt; got, Outcome::Done);
     assert!(rt; gate.both_saw());
     Ok(())
@@ -73,12 +69,9 @@ fn two_workers_meet_in_one_elimination(rt: HostRuntime) -> Result<(), Fail> {
 
 #[test]
 fn one_worker_does_not_meet_itself(rt: HostRuntime) -> Result<(), Fail> {
-    let words = words_of(rt.alloc(), "solve a.csv --workers 1")?;
-    let texts = texts_of(rt.alloc(), &[("a.csv", THREE_UNITS.as_bytes())])?;
-    let mut shelf = SureShelf::of(&texts, 1000);
-    let mut sink = SureSink::of(10000);
     let gate = Meeting::of(1000);
-    let got = hypercube(&rt, rt.alloc(), &words, &mut shelf, &mut sink, &gate);
+    let text = THREE_UNITS.as_bytes();
+    let (got, _) = run(&rt, rt.alloc(), "solve a.csv --workers 1", text, &gate)?;
     assert_eq!(rt; got, Outcome::Done);
     assert!(rt; !gate.both_saw());
     Ok(())

@@ -1,8 +1,8 @@
-use crate::cases::Text::{self, Changed, Longer, Noted, Plain};
+use crate::cases::Text::{self, Changed, Filled, Longer, Noted, Plain};
 use crate::cases::Written::Whole;
 use crate::cases::{Case, check};
-use crate::plans::*;
 use std::test::Fail;
+use worked_plans::*;
 
 #[test]
 fn texts_are_refused_with_these_lines(rt: HostRuntime) -> Result<(), Fail> {
@@ -19,10 +19,24 @@ fn texts_are_refused_with_these_lines(rt: HostRuntime) -> Result<(), Fail> {
     Ok(())
 }
 
-/// What is wrong with a text, the text, and the line that tells of it.
+const TWELVE_UNITS: &str =
+    "unit,U1,1\nunit,U2,1\nunit,U3,1\nunit,U4,1\nunit,U5,1\nunit,U6,1\nunit,U7,1\nunit,U8,1\nunit,U9,1\nunit,U10,1\nunit,U11,1\nunit,U12,1\n";
+
+/// What is wrong with a text, the text, and the line that says so.
 type Refused = (&'static str, Text, &'static str);
 
-const REFUSED: [Refused; 33] = [
+const REFUSED: [Refused; 36] = [
+    ("an empty text", Plain(""), "refused,1,15\n"),
+    (
+        "a byte too many",
+        Filled(HALF_LOAD, 4_194_243),
+        "refused,1,2,4194305\n",
+    ),
+    (
+        "calls that wait, and as many services",
+        Plain("line,infinite\nunit,A,1\natom,P,1,0,0,A\ntravel,P,P,300\nat,A,P,1000\nprefer,P,A\n"),
+        "refused,1,52,1,1\n",
+    ),
     ("a note alone", Plain("note,hello\n"), "refused,1,15\n"),
     (
         "a kind that is no text",

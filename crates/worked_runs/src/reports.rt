@@ -1,10 +1,5 @@
 //! Reports on plans. Their numbers are from outside: from closed formulas, or of a second program that shares no code.
 
-/// What is written where the words are no command.
-pub(crate) const USAGE: &str = "\
-usage: hypercube solve FILE | compare STUDY | make UNITS NUMBER [--width W] [--time-width W] [--workers N] [--summary]
-";
-
 pub(crate) const HALF_LOAD_REPORT: &str = "\
 report,1
 line,zero

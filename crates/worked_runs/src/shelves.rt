@@ -1,6 +1,7 @@
 use hyper_model::Name;
 use outer_world::{Bytes, NamedText};
 use std::alloc::{AllocError, Global};
+use worked_plans::{HALF_LOAD, LITTLE_MORE, SEVEN_SWAMPED, THIRD_LOAD, TWO_UNITS};
 
 /// The words of a command line without blanks in its words.
 pub(crate) fn words_of(alloc: Global, line: &str) -> Result<Vec<String>, AllocError> {
@@ -11,15 +12,35 @@ pub(crate) fn words_of(alloc: Global, line: &str) -> Result<Vec<String>, AllocEr
     Ok(words)
 }
 
+/// A shelf that has this text by the names `a.csv`, `-x.csv` and `s.toml`, and beside it the plans that studies name.
+pub(crate) fn shelf_with(alloc: Global, text: &[u8]) -> Result<Vec<NamedText>, AllocError> {
+    let mut texts = texts_of(alloc, PLANS)?;
+    for name in ["a.csv", "-x.csv", "s.toml"] {
+        texts
+            .push(text_of(alloc, name, text)?)
+            .map_err(|_| AllocError)?;
+    }
+    Ok(texts)
+}
+
+const PLANS: &[(&str, &str)] = &[
+    ("half.csv", HALF_LOAD),
+    ("third.csv", THIRD_LOAD),
+    ("more.csv", LITTLE_MORE),
+    ("two.csv", TWO_UNITS),
+    ("swamped.csv", SEVEN_SWAMPED),
+    ("bad.csv", "station,A\n"),
+];
+
 /// Texts with their names.
 pub(crate) fn texts_of(
     alloc: Global,
-    texts: &[(&str, &[u8])],
+    texts: &[(&str, &str)],
 ) -> Result<Vec<NamedText>, AllocError> {
     let mut named = Vec::new(alloc);
-    for (name, bytes) in texts {
+    for (name, text) in texts {
         named
-            .push(text_of(alloc, name, bytes)?)
+            .push(text_of(alloc, name, text.as_bytes())?)
             .map_err(|_| AllocError)?;
     }
     Ok(named)

@@ -1,9 +1,9 @@
 use crate::cases::Text::{Changed, Filled, Longer, Noted, Plain};
-use crate::cases::Written::{Begins, Lines, Whole};
+use crate::cases::Written::{Lines, Whole};
 use crate::cases::{Case, Text, Written, check};
-use crate::plans::*;
 use crate::reports::*;
 use std::test::Fail;
+use worked_plans::*;
 
 #[test]
 fn plans_have_these_reports(rt: HostRuntime) -> Result<(), Fail> {
@@ -23,7 +23,7 @@ fn plans_have_these_reports(rt: HostRuntime) -> Result<(), Fail> {
 /// What a run is about, its command line, the text of `a.csv`, and what is written.
 type Solved = (&'static str, &'static str, Text, Written);
 
-const SOLVED: [Solved; 30] = [
+const SOLVED: [Solved; 28] = [
     (
         "one unit, half as many calls as services",
         "solve a.csv",
@@ -55,7 +55,7 @@ const SOLVED: [Solved; 30] = [
         Whole(HALF_LOAD_REPORT),
     ),
     (
-        "as many notes in front as make the most records",
+        "notes in front, up to the most records",
         "solve a.csv",
         Noted(HALF_LOAD, 49_995),
         Whole(HALF_LOAD_REPORT),
@@ -206,17 +206,5 @@ const SOLVED: [Solved; 30] = [
         "solve -- -x.csv",
         Plain(HALF_LOAD),
         Whole(HALF_LOAD_REPORT),
-    ),
-    (
-        "the first lines of a made plan",
-        "make 2 0",
-        Plain(""),
-        Begins(MADE_HEAD),
-    ),
-    (
-        "a trip of a made plan",
-        "make 2 0",
-        Plain(""),
-        Lines(&["travel,A1,A2,664"]),
     ),
 ];

@@ -1,2 +1,1 @@
 pub mod LoadEnds
-pub mod Containing

@@ -1,14 +1,14 @@
 ghost use Rattle.std.specs.Prelude.{◌*◌, ◌^◌, ◌≡◌, ◌≤◌};
 ghost use Rattle.fixed_interval.specs.Ends.{outward_ends, ratio_ends};
 ghost use Rattle.hyper_model.specs.Enclosures.{IsOrderedEnclosed};
-ghost use Rattle.workload_measures.specs.LoadEnds.{enclosed};
+ghost use Rattle.busy_words.specs.MeasureEnds.{measure_ends};
 
 use fixed_interval::Iv;
 use hyper_model::{Enclosed, Found, Measure};
 
-// A measure that is a part, told in millionths.
+// A measure that is a part, in millionths.
 pub(crate) fn share(measure: Measure, part: Iv) -> Enclosed
-    ensures ends { result ≡ enclosed measure (outward_ends 1000000 part) }
+    ensures exact { result ≡ measure_ends measure (outward_ends 1000000 part) }
     ensures ordered { IsOrderedEnclosed result }
 {
     let (lo, hi) = part.outward(1_000_000);
@@ -22,7 +22,7 @@ pub(crate) fn share(measure: Measure, part: Iv) -> Enclosed
 pub(crate) fn multiple(measure: Measure, part: Iv, num: u64, den: u64) -> Enclosed
     requires least { 1 ≤ den }
     requires most { num ≤ 2 ^ 60 }
-    ensures ends { result ≡ enclosed measure (ratio_ends part num (2 ^ 62 * den)) }
+    ensures exact { result ≡ measure_ends measure (ratio_ends part num (2 ^ 62 * den)) }
     ensures ordered { IsOrderedEnclosed result }
 {
     let num = u128::from(num);

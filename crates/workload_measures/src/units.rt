@@ -1,9 +1,7 @@
 ghost use Rattle.std.specs.Prelude.{◌≡◌, ◌<◌, All, IfOk, length};
 ghost use Rattle.hyper_model.specs.Enclosures.{IsOrderedEnclosed};
-ghost use Rattle.hyper_model.specs.Measures.{IsInRange};
 ghost use Rattle.hyper_model.specs.Plans.{units};
 ghost use Rattle.busy_words.specs.WeightParts.{IsOrderOf, places};
-ghost use Rattle.workload_measures.specs.Containing.{ContainsEach};
 ghost use Rattle.workload_measures.specs.LoadEnds.{workload_of, workloads_of};
 
 use crate::rounding::share;
@@ -21,10 +19,8 @@ pub fn workloads(
 ) -> Result<Vec<Enclosed>, AllocError>
     requires order { IsOrderOf plan.now order.now }
     requires one_each { length weights.now.items ≡ places plan.now }
-    ensures ends { IfOk result (λ found. found.items ≡ workloads_of plan.now order.now weights.now.items) }
-    ensures contains { IfOk result (λ found. All (ContainsEach plan.now order.now weights.now.items) found.items) }
+    ensures exact { IfOk result (λ found. found.items ≡ workloads_of plan.now order.now weights.now.items) }
     ensures ordered { IfOk result (λ found. All IsOrderedEnclosed found.items) }
-    ensures in_range { IfOk result (λ found. All (λ e. IsInRange plan.now e.measure) found.items) }
 {
     let mut found = Vec::new(alloc);
     for unit in 0..plan.units() {
@@ -37,7 +33,7 @@ fn workload(plan: &Plan, order: &Order, weights: &Weights, unit: u8) -> Enclosed
     requires order { IsOrderOf plan.now order.now }
     requires one_each { length weights.now.items ≡ places plan.now }
     requires unit { unit < units plan.now }
-    ensures ends { result ≡ workload_of plan.now order.now weights.now.items unit }
+    ensures exact { result ≡ workload_of plan.now order.now weights.now.items unit }
     ensures ordered { IsOrderedEnclosed result }
 {
     share(

@@ -3,10 +3,9 @@ use Rattle.fixed_interval.specs.Ends.{Encloses, share_ends}
 use Rattle.fixed_interval.specs.WeightList.{ends_at}
 use Rattle.hyper_model.specs.Words.{is_busy}
 use Rattle.hyper_model.specs.Solutions.{mass_in}
-use Rattle.hyper_model.specs.Measures.{mass}
+use Rattle.hyper_model.specs.Measures.{busy_mass, mass}
 use Rattle.busy_words.specs.Order.{word_or_full}
 use Rattle.busy_words.specs.Parts.{set_ends}
-use Rattle.busy_words.specs.WeightParts.{busy_mass}
 use Rattle.busy_words.proofs.WeightParts.{busy_part_encloses}
 use Rattle.busy_words.proofs.sums.busy_part.Goals as goal
 

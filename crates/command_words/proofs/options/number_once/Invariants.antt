@@ -4,6 +4,6 @@ use Rattle.std.specs.Option.{option_to_list}
 use Rattle.command_words.specs.Options as spec
 use Rattle.command_words.proofs.options.number_once.Given as goal
 
-abbrev pub invariant-loop-option : goal.invariant-loop-option
-invariant-loop-option l =
-    filter_map (spec.number_of l.key) (take l.option-index l.given) ≡ option_to_list l.found
+abbrev pub invariant-loop-setting : goal.invariant-loop-setting
+invariant-loop-setting l =
+    filter_map (spec.number_of l.key) (take l.setting-index l.settings) ≡ option_to_list l.found

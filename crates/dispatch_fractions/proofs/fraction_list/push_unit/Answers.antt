@@ -3,7 +3,7 @@ use Rattle.std.specs.List.{range_with_len}
 use Rattle.hyper_model.specs.Plans.{atoms}
 use Rattle.hyper_model.specs.Enclosures.{IsOrderedEnclosed}
 use Rattle.dispatch_fractions.specs.Fractions.{fraction_of}
-use Rattle.dispatch_fractions.proofs.Ranges.{map_more, all_pushed}
+use Rattle.hyper_model.proofs.Ranges.{map_more, all_pushed}
 use Rattle.dispatch_fractions.proofs.fraction_list.push_unit.Goals as goal
 
 pub loop-atom-preserved : goal.loop-atom-preserved

@@ -3,7 +3,7 @@ use Rattle.std.specs.List.{range_with_len}
 use Rattle.fixed_interval.specs.WeightList.{ends_at}
 use Rattle.hyper_model.specs.Plans.{atoms}
 use Rattle.busy_words.specs.WeightParts.{taken_part}
-use Rattle.dispatch_fractions.proofs.Ranges.{map_more}
+use Rattle.hyper_model.proofs.Ranges.{map_more}
 use Rattle.dispatch_fractions.proofs.part_making.push_taken.Goals as goal
 
 pub loop-atom-preserved : goal.loop-atom-preserved

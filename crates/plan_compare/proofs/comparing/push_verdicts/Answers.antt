@@ -1,7 +1,7 @@
-use Rattle.std.proofs.Common.{◌≡◌, ◌+◌, ◌-◌, ◌++◌, ◌∙◌, sym, ap, length, take, drop, arith}
+use Rattle.std.proofs.Common.{◌≡◌, ◌-◌, ◌++◌, ◌∙◌, sym, ap, take, arith}
 use Rattle.std.proofs.lemmas.List.{take-append-drop}
 use Rattle.plan_compare.proofs.Pairs.{pairs_left-length}
-use Rattle.plan_compare.proofs.VerdictLines.{lines_next}
+use Rattle.plan_compare.proofs.VerdictRows.{rows_next}
 use Rattle.plan_compare.proofs.comparing.push_verdicts.Goals as goal
 
 pub split_at-requires : goal.split_at-requires
@@ -19,6 +19,6 @@ loop-a-preserved c =
     sym (ap (λ vs. vs ++ later) c.split_at.ensures.front ∙ ap (λ vs. take (n - 1 - a) rest ++ vs) c.split_at.ensures.back ∙ take-append-drop (n - 1 - a) rest) in
     record {
       number = omega (arith, pairs_left-length n c.args.measure a c.loop-a-test.true, c.loop-a.invariant.number, c.split_at.ensures.back_len);
-      text = lines_next n c.args.measure a rest here later c.loop-a.text.items c.push_verdicts_from.new.text.items _ c.loop-a-test.true
+      text = rows_next n c.args.measure a rest here later c.loop-a.text.items c.push_verdicts_from.new.text.items _ c.loop-a-test.true
           (c.split_at.ensures.front_len ∙ omega arith) both c.in_ok-push_verdicts_from.ensures c.loop-a.invariant.text;
     }

@@ -1,6 +1,4 @@
-use Rattle.std.proofs.Common.{◌≡◌, ◌∙◌, ap, true, false}
-use Rattle.std.specs.Prelude.{◌&&◌, length}
-use Rattle.plan_compare.specs.Documents.{is_within}
+use Rattle.std.proofs.Common.{◌∙◌}
 use Rattle.plan_compare.proofs.StudyForms.{form_of}
 use Rattle.plan_compare.proofs.document.is_in_form.Goals as goal
 

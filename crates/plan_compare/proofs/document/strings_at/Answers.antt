@@ -1,4 +1,4 @@
-use Rattle.std.proofs.Common.{◌≡◌, ◌∙◌, sym}
+use Rattle.std.proofs.Common.{sym}
 use Rattle.toml.specs.View.{table_view}
 use Rattle.toml.proofs.Views.{table_get}
 use Rattle.plan_compare.proofs.Documents.{strings_found}

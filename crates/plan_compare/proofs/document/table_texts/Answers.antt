@@ -1,4 +1,4 @@
-use Rattle.std.proofs.Common.{◌≡◌, ◌∙◌, sym, arith, map, string_bytes}
+use Rattle.std.proofs.Common.{◌≡◌, arith, map, string_bytes}
 use Rattle.std.proofs.lemmas.Bool.{ne_eqb}
 use Rattle.toml.specs.View.{table_view}
 use Rattle.plan_compare.specs.Documents.{key_count}

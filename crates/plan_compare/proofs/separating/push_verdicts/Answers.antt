@@ -1,9 +1,10 @@
-use Rattle.std.proofs.Common.{◌≡◌, ◌+◌, ◌++◌, ◌∙◌, ap, length, map, arith, length-append}
+use Rattle.std.proofs.Common.{◌+◌, ◌∙◌, ap, length, map, arith, length-append}
 use Rattle.std.specs.List.{flat_map, range_with_len}
 use Rattle.std.proofs.lemmas.List.{map-append}
 use Rattle.plan_compare.specs.Verdicts.{pairs_from, verdict_of}
 use Rattle.plan_compare.proofs.Pairs.{pairs_from-length}
-use Rattle.plan_compare.proofs.Pieces.{gained, numbers_next, range_fits}
+use Rattle.text_lines.proofs.Pieces.{one_gained, numbers_next}
+use Rattle.plan_compare.proofs.Pieces.{range_fits}
 use Rattle.plan_compare.proofs.separating.push_verdicts.Goals as goal
 
 pub push_verdicts_from-requires-clause-room : goal.push_verdicts_from-requires-clause-room
@@ -26,7 +27,7 @@ loop-a-preserved c =
     let done = flat_map pairs (range_with_len 0 a) in
     let next = numbers_next pairs a in
     record {
-      items = gained c.args.out.now.items c.loop-a.out.items (map tell done) (map tell (pairs a))
+      items = one_gained c.args.out.now.items c.loop-a.out.items (map tell done) (map tell (pairs a))
           (map tell (flat_map pairs (range_with_len 0 (a + 1)))) c.push_verdicts_from.new.out.items c.loop-a.invariant.items
           c.push_verdicts_from.ensures.items (ap (map tell) next ∙ map-append tell done (pairs a));
       spare = omega (

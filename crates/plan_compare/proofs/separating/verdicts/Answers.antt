@@ -1,8 +1,9 @@
-use Rattle.std.proofs.Common.{◌≡◌, ◌+◌, ◌++◌, ◌∙◌, ap, sym, length, map, take, arith, length-append}
+use Rattle.std.proofs.Common.{◌≡◌, ◌++◌, ◌∙◌, ap, sym, length, map, take, arith, length-append}
 use Rattle.std.specs.List.{flat_map}
 use Rattle.std.proofs.lemmas.List.{map-append, take_all}
 use Rattle.plan_compare.specs.Verdicts.{pairs_of, verdict_of}
-use Rattle.plan_compare.proofs.Pieces.{piece_fits, piece_next}
+use Rattle.text_lines.proofs.Pieces.{piece_next}
+use Rattle.plan_compare.proofs.Pieces.{piece_fits}
 use Rattle.plan_compare.proofs.TrueVerdicts.{all_contained, all_true}
 use Rattle.plan_compare.proofs.separating.verdicts.Goals as goal
 

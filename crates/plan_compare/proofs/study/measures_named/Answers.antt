@@ -2,10 +2,10 @@ use Rattle.std.proofs.Common.{◌≡◌, ◌<◌, ◌+◌, ◌++◌, ◌∷◌, 
 use Rattle.std.specs.Prelude.{option_map, is_some}
 use Rattle.std.proofs.lemmas.List.{get_or-map, length-map, length_push}
 use Rattle.std.proofs.lemmas.List.Elements.{All-push}
-use Rattle.report_text.specs.Reports.{is_of_region}
-use Rattle.plan_compare.specs.Asked.{measure_named}
+use Rattle.hyper_model.specs.Measures.{is_of_region, measure_named}
 use Rattle.plan_compare.specs.declared.refusal.StudyRefusal.TheVariants as refusal
 use Rattle.plan_compare.proofs.FirstPlaces.{position_is, position_none, filter_map_next}
+use Rattle.plan_compare.proofs.RegionValues.{of_region_measure}
 use Rattle.plan_compare.proofs.study.measures_named.Goals as goal
 
 pub returns-in_default-clause-unknown : goal.returns-in_default-clause-unknown
@@ -17,7 +17,7 @@ returns-in_default-clause-unknown c =
     let at : get_or texts place [] ≡ string_bytes word =
     get_or-map string_bytes c.args.words.now place word [] c.loop-place-test.true ∙ ap string_bytes (sym c.index-words-place.is) in
     let none : measure_named (get_or texts place []) ≡ None =
-    ap measure_named (at ∙ sym c.as_bytes.ensures.value) ∙ sym c.measure_named.ensures.measure ∙ c.in_default.is in
+    ap measure_named (at ∙ sym c.as_str.ensures.value) ∙ sym c.measure_named.ensures ∙ c.in_default.is in
     inr (ap (option_map (λ k. refusal.UnknownMeasure (k + 1))) (position_is measure_named texts [] place inside c.loop-place.invariant.known none))
 
 pub loop-place-preserved : goal.loop-place-preserved
@@ -29,14 +29,14 @@ loop-place-preserved c =
     let at : get_or texts place [] ≡ string_bytes word =
     get_or-map string_bytes c.args.words.now place word [] c.loop-place-test.true ∙ ap string_bytes (sym c.index-words-place.is) in
     let some : measure_named (get_or texts place []) ≡ Some c.in-Some.measure =
-    ap measure_named (at ∙ sym c.as_bytes.ensures.value) ∙ sym c.measure_named.ensures.measure ∙ c.in-Some.is in
+    ap measure_named (at ∙ sym c.as_str.ensures.value) ∙ sym c.measure_named.ensures ∙ c.in-Some.is in
     let items : c.extend_from_slice.new.self.items ≡ c.loop-place.measures.items ++ c.in-Some.measure ∷ [] = c.in_ok-extend_from_slice.ensures.items in
     record {
       known = below_more _ _ c.loop-place.invariant.known (ap is_some some);
       measures = items ∙ ap (λ ys. ys ++ c.in-Some.measure ∷ []) c.loop-place.invariant.measures
           ∙ sym (filter_map_next measure_named texts [] place c.in-Some.measure inside some);
       number = ap length items ∙ omega (arith, length_push c.loop-place.measures.items c.in-Some.measure);
-      region = rw items (All-push (λ m. is_of_region m ≡ true) _ _ c.loop-place.invariant.region c.in-Some.ensures.region);
+      region = rw items (All-push (λ m. is_of_region m ≡ true) _ _ c.loop-place.invariant.region (of_region_measure _ c.in-Some.measure some));
     }
 
 pub returns-clause-known : goal.returns-clause-known

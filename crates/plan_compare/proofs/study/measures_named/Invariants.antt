@@ -1,7 +1,6 @@
 use Rattle.std.proofs.Common.{◌≡◌, ℕ, ◌<◌, true, [], map, length, get_or, take, string_bytes}
 use Rattle.std.specs.Prelude.{All, filter_map, is_some}
-use Rattle.report_text.specs.Reports.{is_of_region}
-use Rattle.plan_compare.specs.Asked.{measure_named}
+use Rattle.hyper_model.specs.Measures.{is_of_region, measure_named}
 use Rattle.plan_compare.proofs.study.measures_named.Given as goal
 
 abbrev pub invariant-loop-place : goal.invariant-loop-place

@@ -1,5 +1,5 @@
 use Rattle.std.proofs.Common.{◌≡◌, ◌<◌, ◌∙◌, rules, arith, length, Some}
-use Rattle.plan_compare.specs.Comparisons.{all_asked, first_wide_of}
+use Rattle.plan_compare.specs.Comparisons.{value_places, first_wide_of}
 use Rattle.plan_compare.proofs.WideValues.{plan_here, plan_past}
 use Rattle.plan_compare.proofs.widths.check_widths.Goals as goal
 
@@ -7,7 +7,7 @@ pub returns-in_err-check_plan-clause-wide : goal.returns-in_err-check_plan-claus
 returns-in_err-check_plan-clause-wide c =
     let found = c.args.found.now in
     let within : c.loop-place.place < length found = omega (arith, c.loop-place-test.true) in
-    let here : first_wide_of c.args.widths found (all_asked c.args.study.now) ≡ Some c.in_err-check_plan.field-0.0 =
+    let here : first_wide_of c.args.widths found (value_places c.args.study.now) ≡ Some c.in_err-check_plan.field-0.0 =
     c.loop-place.invariant
     ∙ plan_here c.args.widths found c.args.study.now.measures (length found) c.loop-place.place c.in_err-check_plan.field-0.0 within
     c.in_err-check_plan.ensures.wide in

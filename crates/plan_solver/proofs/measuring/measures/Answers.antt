@@ -1,5 +1,5 @@
 use Rattle.std.proofs.Common.{◌∙◌, length, ap, arith}
-use Rattle.plan_solver.proofs.AllMeasures.{workloads_count}
+use Rattle.plan_solver.proofs.AllMeasures.{workloads_fit}
 use Rattle.plan_solver.proofs.measuring.measures.Goals as goal
 
 pub push_all-requires-clause-room : goal.push_all-requires-clause-room
@@ -8,8 +8,6 @@ push_all-requires-clause-room c =
       arith,
       c.push_line.ensures.room,
       c.in_ok-found.ensures.spare,
-      ap (λ (es : _). length es) (c.deref.ensures.value ∙ c.in_ok-workloads.ensures.ends),
-      workloads_count c.args.plan.now c.args.weighed.now.order c.args.weighed.now.weights.items,
-      c.units-units.ensures.units,
-      c.units-units.ensures.most,
+      ap (λ (es : _). length es) (c.deref.ensures.value ∙ c.in_ok-workloads.ensures.exact),
+      workloads_fit c.args.plan.now c.law_accepted.ensures c.args.weighed.now.order c.args.weighed.now.weights.items,
     )

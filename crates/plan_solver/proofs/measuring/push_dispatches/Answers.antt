@@ -1,5 +1,5 @@
 use Rattle.std.proofs.Common.{◌∙◌, length, ap, arith}
-use Rattle.plan_solver.proofs.AllMeasures.{fractions_most, shares_count}
+use Rattle.plan_solver.proofs.AllMeasures.{fractions_fit, shares_fit}
 use Rattle.plan_solver.proofs.measuring.push_dispatches.Goals as goal
 
 pub push_all-requires-clause-room : goal.push_all-requires-clause-room
@@ -8,8 +8,7 @@ push_all-requires-clause-room c =
       arith,
       c.requires.room,
       ap (λ (es : _). length es) (c.deref.ensures.value ∙ c.in_ok-fractions.ensures.exact),
-      fractions_most c.args.plan.now c.args.parts.now (c.units-units.ensures.units) c.units-units.ensures.most
-          c.atoms-atoms.ensures.atoms c.atoms-atoms.ensures.most,
+      fractions_fit c.args.plan.now c.law_accepted.ensures c.args.parts.now,
     )
 
 pub push_all-requires-2-clause-room : goal.push_all-requires-2-clause-room
@@ -19,12 +18,9 @@ push_all-requires-2-clause-room c =
       c.requires.room,
       c.push_all.ensures.room,
       ap (λ (es : _). length es) (c.deref.ensures.value ∙ c.in_ok-fractions.ensures.exact),
-      fractions_most c.args.plan.now c.args.parts.now (c.units-units.ensures.units) c.units-units.ensures.most
-          c.atoms-atoms.ensures.atoms c.atoms-atoms.ensures.most,
+      fractions_fit c.args.plan.now c.law_accepted.ensures c.args.parts.now,
       ap (λ (es : _). length es) (c.deref-2.ensures.value ∙ c.in_ok-interdistrict.ensures.exact),
-      shares_count c.args.plan.now c.args.parts.now,
-      c.units-units.ensures.units,
-      c.units-units.ensures.most,
+      shares_fit c.args.plan.now c.law_accepted.ensures c.args.parts.now,
     )
 
 pub returns-clause-room : goal.returns-clause-room
@@ -34,10 +30,7 @@ returns-clause-room c =
       c.push_all.ensures.room,
       c.push_all-2.ensures.room,
       ap (λ (es : _). length es) (c.deref.ensures.value ∙ c.in_ok-fractions.ensures.exact),
-      fractions_most c.args.plan.now c.args.parts.now (c.units-units.ensures.units) c.units-units.ensures.most
-          c.atoms-atoms.ensures.atoms c.atoms-atoms.ensures.most,
+      fractions_fit c.args.plan.now c.law_accepted.ensures c.args.parts.now,
       ap (λ (es : _). length es) (c.deref-2.ensures.value ∙ c.in_ok-interdistrict.ensures.exact),
-      shares_count c.args.plan.now c.args.parts.now,
-      c.units-units.ensures.units,
-      c.units-units.ensures.most,
+      shares_fit c.args.plan.now c.law_accepted.ensures c.args.parts.now,
     )

@@ -24,11 +24,11 @@ loop-place-preserved c =
     let inv = c.loop-place.invariant in
     let lt : c.loop-place.place < length c.args.rows.now = omega (arith, c.loop-place-test.true, c.len-place-end.ensures) in
     let at = reading-at c.args.rows.now c.loop-place.place c.loop-place.groups c.row-row.result lt inv.groups c.row-row.ensures in
-    let said : c.says_version_two-groups.result ≡ is_version_two (slice_index_or c.args.rows.now c.loop-place.place []) =
+    let is_read : c.says_version_two-groups.result ≡ is_version_two (slice_index_or c.args.rows.now c.loop-place.place []) =
     c.says_version_two-groups.ensures ∙ ap is_version_two c.row-row.ensures in
     record {
       few = omega (arith, c.in_ok-read.ensures.few);
-      groups = rw (said, inv.groups) (sym (any-more is_version_two c.args.rows.now c.loop-place.place lt));
+      groups = rw (is_read, inv.groups) (sym (any-more is_version_two c.args.rows.now c.loop-place.place lt));
       read = rw c.in_ok-keep.ensures.kept
           (sym (records_after-more c.args.rows.now c.loop-place.place c.loop-place.found.items c.in_ok-read.read lt (at ∙ c.in_ok-read.ensures.reading)) ∙ inv.read);
     }

@@ -1,6 +1,6 @@
 use Rattle.std.proofs.Common.{◌≡◌, drop, length, take}
 use Rattle.plan_text.specs.Steps.{first_over}
-use Rattle.preference_rules.specs.Given.{draft_refusal, drafts_refusal}
+use Rattle.preference_rules.specs.Drafts.{draft_refusal, drafts_refusal}
 use Rattle.preference_rules.proofs.given.check_drafts.Given as goal
 
 abbrev pub invariant-loop-j : goal.invariant-loop-j

@@ -9,5 +9,5 @@ update-requires-clause-band g c _ _ =
     let same = sym c.index-bands-level.is
     ∙ get_or_read c.loop-level.bands c.loop-level.level c.index-bands-level.result (omega arith) c.index-bands-level.is no_band
     ∙ c.loop-level.invariant.rest c.loop-level.level (omega arith) in
-    subst (CanUpdate c.args.elimination.now.state c.args.elimination.now.scale c.args.elimination.now.flows.now c.args.elimination.now.parts.now)
+    subst (CanUpdate c.args.elimination.now)
     (sym same) (c.requires.bands c.loop-level.level (omega arith))

@@ -5,7 +5,6 @@ use Rattle.rate_matrix.proofs.update.update_bands_alone.Given as goal
 
 abbrev pub invariant-loop-level : goal.invariant-loop-level
 invariant-loop-level g l = record {
-  done : (k : ℕ) → k < l.level → IsUpdated l.elimination.state l.elimination.scale l.elimination.flows.now
-      l.elimination.parts.now (slice_index_or l.initial.bands k no_band) (slice_index_or l.bands k no_band);
+  done : (k : ℕ) → k < l.level → IsUpdated l.elimination (slice_index_or l.initial.bands k no_band) (slice_index_or l.bands k no_band);
   rest : (k : ℕ) → l.level ≤ k → slice_index_or l.bands k no_band ≡ slice_index_or l.initial.bands k no_band;
 }

@@ -8,11 +8,11 @@ update_rows-requires-clause-kept g c _ _ =
     (parts-read c.args.m.now c.alive-state.result c.fill_parts.new.scratch c.as_slice.result.now c.alive-state.ensures.alive
     c.as_slice.ensures c.fill_parts.ensures.parts)
 
-pub returns-clause-entries : goal.returns-clause-entries
-returns-clause-entries g c =
+pub returns-clause-state : goal.returns-clause-state
+returns-clause-state g c =
     let alive = c.alive-state.ensures.alive in
-    (loses-state c.args.m.now c.retire.new.self c.update_rows.new.self c.as_slice.result.now
-    (omega (arith, c.requires.alive)) (omega (arith, alive, c.alive-state.ensures.most)) c.retire.ensures
+    loses-state c.args.m.now c.retire.new.self c.update_rows.new.self c.as_slice.result.now
+    (omega (arith, c.requires.ready.alive)) (omega (arith, alive, c.alive-state.ensures.most)) c.retire.ensures
     (parts-read c.args.m.now c.alive-state.result c.fill_parts.new.scratch c.as_slice.result.now alive c.as_slice.ensures
     c.fill_parts.ensures.parts)
-    c.update_rows.ensures.frame c.update_rows.ensures.alive c.update_rows.ensures.entries).entries
+    c.update_rows.ensures.frame c.update_rows.ensures.alive c.update_rows.ensures.entries

@@ -3,7 +3,7 @@ use Rattle.fixed_interval.specs.Ends.{Ends}
 use Rattle.hyper_model.proofs.Sums.{place_le_sum}
 use Rattle.rate_matrix.specs.Bands.{entry}
 use Rattle.rate_matrix.proofs.Raising.{rest-ordered}
-use Rattle.rate_matrix.proofs.Totals.{part_is, rest_is}
+use Rattle.rate_matrix.proofs.Totals.{part_is, rest_is, without-less}
 use Rattle.state_reduction.proofs.parts.part_of.Goals as goal
 
 pub overflow_sub-lo : goal.overflow_sub-lo
@@ -46,14 +46,17 @@ new-requires c =
       ap (λ (e : Ends). e.hi) c.requires.all,
       ap (λ (e : Ends). e.lo) one,
       ap (λ (e : Ends). e.hi) one,
-      rest-ordered c.args.state (entry c.args.m.now c.args.state) c.args.j before
+      rest-ordered c.args.state (entry c.args.m.now c.args.state) c.args.j
           (λ k l. ordered c.args.state k inside (omega arith) (omega arith)),
+      (without-less c.args.state c.args.j (entry c.args.m.now c.args.state) before).0,
+      (without-less c.args.state c.args.j (entry c.args.m.now c.args.state) before).1,
     )
 
 pub returns : goal.returns
 returns c =
-    part_is (entry c.args.m.now) c.args.state c.args.j c.args.all c.wide-entry.result c.new.result c.part_of.result
-    c.requires.all (c.wide-entry.ensures.ends ∙ c.entry.ensures.entry)
-    (rest_is c.args.all c.wide-entry.result c.new.result c.lo.result c.lo-2.result c.hi.result c.hi-2.result
+    let one = c.wide-entry.ensures.ends ∙ c.entry.ensures.entry in
+    part_is (entry c.args.m.now) c.args.state c.args.j c.wide-entry.result c.new.result c.part_of.result one
+    (rest_is c.args.state c.args.j (entry c.args.m.now c.args.state) c.args.all c.wide-entry.result c.new.result
+    c.lo.result c.lo-2.result c.hi.result c.hi-2.result c.requires.before c.requires.all one
     c.lo.ensures.end c.lo-2.ensures.end c.hi.ensures.end c.hi-2.ensures.end c.new.ensures.ends)
     c.part_of.ensures.ends

@@ -1,28 +1,24 @@
-use Rattle.std.proofs.Common.{refl, ◌∙◌, arith}
-use Rattle.state_reduction.proofs.Reductions.{holds-solutions, states-all, states-end, states-fewer}
+use Rattle.std.proofs.Common.{arith}
+use Rattle.state_reduction.proofs.Reductions.{ends_reduced, goes_on, may_lose, starts}
 use Rattle.state_reduction.proofs.reduction.reduce.Goals as goal
 
 pub loop-m-init : goal.loop-m-init
-loop-m-init c = record {
-  gone = states-all c.args.m.now (omega (arith, c.size-size.ensures, c.requires.alive)) c.requires.alive;
-  row = refl;
-}
+loop-m-init c = starts _ c.args.m.now c.args.scratch.now (omega (arith, c.size-size.ensures.least)) c.requires.ready
+
+pub step-requires : goal.step-requires
+step-requires c =
+    record {
+      ready = may_lose _ c.args.m.now c.loop-m.m c.args.scratch.now c.loop-m.scratch c.requires.ready c.loop-m.invariant
+          (omega (arith, c.alive.ensures.alive, c.loop-m-test.true));
+    }
 
 pub loop-m-preserved : goal.loop-m-preserved
-loop-m-preserved c = record {
-  gone =
-      states-fewer c.args.m.now c.loop-m.m c.step.new.m c.loop-m.invariant.gone
-      (omega (arith, c.alive.ensures.alive, c.loop-m-test.true))
-      (record {
-        frame = c.step.ensures.frame;
-        alive = c.step.ensures.alive;
-        entries = c.step.ensures.entries;
-      });
-  row = c.step.ensures.row ∙ c.loop-m.invariant.row;
-}
+loop-m-preserved c =
+    goes_on c.args.m.now c.loop-m.m c.step.new.m c.args.scratch.now c.loop-m.scratch c.step.new.scratch
+    c.loop-m.invariant (omega (arith, c.alive.ensures.alive, c.loop-m-test.true)) c.step.ensures.state
+    c.step.ensures.row
 
-pub returns-clause-solutions : goal.returns-clause-solutions
-returns-clause-solutions c =
-    holds-solutions c.args.m.now c.loop-m.m
-    (states-end c.args.m.now c.loop-m.m c.loop-m.invariant.gone
-    (omega (arith, c.alive.ensures.alive, c.loop-m-test.false)))
+pub returns-clause-reduced : goal.returns-clause-reduced
+returns-clause-reduced c =
+    ends_reduced c.args.m.now c.loop-m.m c.args.scratch.now c.loop-m.scratch c.loop-m.invariant
+    (omega (arith, c.alive.ensures.alive, c.loop-m-test.false))

@@ -1,4 +1,4 @@
-use Rattle.std.proofs.Common.{◌≡◌, ℕ, ◌≤◌}
+use Rattle.std.proofs.Common.{◌≡◌, ◌≤◌}
 use Rattle.travel_measures.specs.TravelEnds.{greatest_below, longest_to}
 use Rattle.travel_measures.proofs.table_sums.longest_mean.Given as goal
 

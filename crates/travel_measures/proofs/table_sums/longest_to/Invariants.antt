@@ -1,4 +1,4 @@
-use Rattle.std.proofs.Common.{◌≡◌, ℕ, ◌≤◌}
+use Rattle.std.proofs.Common.{◌≡◌, ◌≤◌}
 use Rattle.hyper_model.specs.Plans.{travel}
 use Rattle.travel_measures.specs.TravelEnds.{greatest_below}
 use Rattle.travel_measures.proofs.table_sums.longest_to.Given as goal

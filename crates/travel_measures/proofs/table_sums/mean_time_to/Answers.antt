@@ -1,4 +1,4 @@
-use Rattle.std.proofs.Common.{◌≡◌, ℕ, ◌*◌, ◌<◌, ◌≤◌, ap, sym, subst, arith}
+use Rattle.std.proofs.Common.{◌≡◌, ◌*◌, ◌<◌, ◌≤◌, ap, sym, subst, arith}
 use Rattle.hyper_model.specs.Grid.{Grid, cell}
 use Rattle.hyper_model.specs.Plans.{atoms}
 use Rattle.travel_measures.proofs.table_sums.mean_time_to.Goals as goal

@@ -1,4 +1,4 @@
-use Rattle.std.proofs.Common.{◌≡◌, ℕ, ◌*◌, ◌≤◌, cond}
+use Rattle.std.proofs.Common.{◌≡◌, ◌*◌, ◌≤◌, cond}
 use Rattle.hyper_model.specs.Sums.{sum_below}
 use Rattle.hyper_model.specs.Plans.{calls_of, all_calls}
 use Rattle.hyper_model.specs.Measures.{travel_from_calls}

@@ -1,4 +1,4 @@
-use Rattle.std.proofs.Common.{◌≡◌, ℕ, ◌*◌, ◌^◌, ◌≤◌}
+use Rattle.std.proofs.Common.{◌≡◌, ◌*◌, ◌^◌, ◌≤◌}
 use Rattle.busy_words.specs.Algebra.{total_ends}
 use Rattle.travel_measures.specs.TravelEnds.{trip_ends}
 use Rattle.travel_measures.proofs.trips.all_trips.Given as goal

@@ -1,4 +1,4 @@
-use Rattle.std.proofs.Common.{◌≡◌, ℕ, ap, ◌∙◌, arith}
+use Rattle.std.proofs.Common.{◌≡◌, ap, ◌∙◌, arith}
 use Rattle.fixed_interval.specs.Ends.{scaled_ends}
 use Rattle.hyper_model.specs.Plans.{units}
 use Rattle.hyper_model.specs.Measures.{mean_travel}

@@ -6,6 +6,6 @@ use Rattle.workload_measures.proofs.units.workloads.Given as goal
 
 abbrev pub invariant-loop-unit : goal.invariant-loop-unit
 invariant-loop-unit l = record {
-  ends : l.found.items ≡ map (workload_of l.plan l.order l.weights.items) (range_with_len 0 l.unit);
+  exact : l.found.items ≡ map (workload_of l.plan l.order l.weights.items) (range_with_len 0 l.unit);
   ordered : All IsOrderedEnclosed l.found.items;
 }

@@ -1,4 +1,4 @@
-use Rattle.std.proofs.Common.{◌<◌, length, map, arith, string_bytes}
+use Rattle.std.proofs.Common.{arith, string_bytes}
 use Rattle.std.proofs.lemmas.List.{length-map}
 use Rattle.plan_compare.proofs.StudyForms.{name_between}
 use Rattle.plan_compare.proofs.study.Study.plan_name.Goals as goal

@@ -1,6 +1,7 @@
 use Rattle.std.proofs.Common.{◌≡◌, take}
 use Rattle.atom_table.specs.Entries.{unit_names}
-use Rattle.preference_rules.specs.Drafts.{places_of, with_group}
+use Rattle.preference_rules.specs.Drafts.{with_group}
+use Rattle.preference_rules.specs.Lists.{places_of}
 use Rattle.preference_rules.proofs.draft.Draft.take_group.Given as goal
 
 abbrev pub invariant-loop-place : goal.invariant-loop-place

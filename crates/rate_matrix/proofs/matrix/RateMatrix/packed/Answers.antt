@@ -1,15 +1,15 @@
 use Rattle.std.proofs.Common.{◌+◌, true, subst}
 use Rattle.hyper_model.specs.Plans.{units}
 use Rattle.hyper_model.specs.Words.{words}
-use Rattle.rate_matrix.specs.Bands.{laid_out}
+use Rattle.rate_matrix.specs.Bands.{layout}
 use Rattle.rate_matrix.specs.LevelBands.{AreBandsOf}
 use Rattle.rate_matrix.specs.WordChains.{AreNeighbours, word_rates, word_top}
 use Rattle.rate_matrix.proofs.WordChains.{ordered_words}
 use Rattle.rate_matrix.proofs.PackedWords.{kept_as, words_banded, words_kept, words_zeros}
 use Rattle.rate_matrix.proofs.matrix.RateMatrix.packed.Goals as goal
 
-pub exact-requires-clause-banded : goal.exact-requires-clause-banded
-exact-requires-clause-banded c =
+pub of_chain-requires-clause-banded : goal.of_chain-requires-clause-banded
+of_chain-requires-clause-banded c =
     let p = c.args.chain.now.plan.now in
     let order = c.args.chain.now.order.now in
     let h = ordered_words p order c.args.chain.now.same_units c.units-units.ensures.ordered in
@@ -17,8 +17,8 @@ exact-requires-clause-banded c =
     (subst (λ n. AreBandsOf c.deref.result.now (n + 1) c.in_ok-bands.bands.items) c.units.ensures.units c.in_ok-bands.ensures) in
     words_banded p order h c.in_ok-levels.levels.items c.in_ok-levels.ensures.count c.in_ok-levels.ensures.levels c.in_ok-bands.bands.items are
 
-pub exact-requires-clause-zeros : goal.exact-requires-clause-zeros
-exact-requires-clause-zeros c =
+pub of_chain-requires-clause-zeros : goal.of_chain-requires-clause-zeros
+of_chain-requires-clause-zeros c =
     let p = c.args.chain.now.plan.now in
     let order = c.args.chain.now.order.now in
     let h = ordered_words p order c.args.chain.now.same_units c.units-units.ensures.ordered in
@@ -33,6 +33,6 @@ returns-clause-kept c =
     let h = ordered_words p order c.args.chain.now.same_units c.units-units.ensures.ordered in
     let are = subst (λ l. AreBandsOf l (units p + 1) c.in_ok-bands.bands.items) c.deref.ensures.value
     (subst (λ n. AreBandsOf c.deref.result.now (n + 1) c.in_ok-bands.bands.items) c.units.ensures.units c.in_ok-bands.ensures) in
-    kept_as c.exact.result (words p) (word_rates p order) (word_top p) (laid_out (words p) true c.in_ok-levels.levels.items c.in_ok-bands.bands.items)
-    (AreNeighbours p order) c.exact.ensures.rates c.exact.ensures.shape
+    kept_as c.of_chain.result (words p) (word_rates p order) (word_top p) (layout (words p) true c.in_ok-levels.levels.items c.in_ok-bands.bands.items)
+    (AreNeighbours p order) c.of_chain.ensures.rates c.of_chain.ensures.shape
     (words_kept p order h c.in_ok-levels.levels.items c.in_ok-levels.ensures.count c.in_ok-levels.ensures.levels c.in_ok-bands.bands.items are)

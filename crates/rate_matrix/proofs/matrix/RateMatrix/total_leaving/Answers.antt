@@ -1,6 +1,6 @@
 use Rattle.std.proofs.Common.{◌≡◌, ap, arith}
 use Rattle.rate_matrix.specs.Bands.{entry}
-use Rattle.rate_matrix.specs.Elimination.{total_below}
+use Rattle.busy_words.specs.Algebra.{total_ends}
 use Rattle.fixed_interval.specs.Ends.{Ends}
 use Rattle.rate_matrix.proofs.matrix.RateMatrix.total_leaving.Goals as goal
 
@@ -11,7 +11,7 @@ returns-clause-least c later =
     omega (
       arith,
       ap (λ (e : Ends). e.lo) c.loop-j.invariant.is,
-      ap (λ n. (total_below (entry c.args.self.now c.args.state) n).lo) whole,
+      ap (λ n. (total_ends n (entry c.args.self.now c.args.state)).lo) whole,
       sound.live.leaves c.args.state later c.requires,
       sound.scale,
     )

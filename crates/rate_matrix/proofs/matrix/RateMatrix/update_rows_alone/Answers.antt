@@ -3,12 +3,14 @@ use Rattle.std.proofs.lemmas.List.{with_items_is}
 use Rattle.rate_matrix.proofs.MatrixUpdates.{can_update_each, update_all}
 use Rattle.rate_matrix.proofs.matrix.RateMatrix.update_rows_alone.Goals as goal
 
-pub update_bands_alone-requires-clause-bands : goal.update_bands_alone-requires-clause-bands
-update_bands_alone-requires-clause-bands c =
+pub update_bands_alone-requires : goal.update_bands_alone-requires
+update_bands_alone-requires c =
     let gone = rw (← c.self.view_is) at c.requires.eliminated in
     let enough = rw (← c.self.view_is) at c.requires.parts in
     let zeros = rw (← c.self.view_is) at c.requires.kept in
-    can_update_each _ c.args.parts.now c.self.invariant gone enough zeros _ _ c.deref.ensures.value c.deref_mut.ensures.value
+    record {
+      bands = can_update_each _ c.args.parts.now c.self.invariant gone enough zeros _ _ c.deref.ensures.value c.deref_mut.ensures.value;
+    }
 
 pub invariant_of-self : goal.invariant_of-self
 invariant_of-self c =

@@ -1,25 +1,18 @@
-use Rattle.std.proofs.Common.{◌*◌, take, subst, sym, ◌∙◌, arith}
+use Rattle.std.proofs.Common.{◌*◌, take, subst, sym}
 use Rattle.std.proofs.lemmas.List.{take_at}
-use Rattle.rate_matrix.specs.Rows.{AreAfter, CanEliminate, rows_from}
-use Rattle.rate_matrix.proofs.SlicePlaces.{length_taken, rows_taken}
+use Rattle.rate_matrix.specs.Rows.{AreAfter, rows_from}
+use Rattle.rate_matrix.proofs.RowsOfBand.{can_first_rows, first_rows_after}
 use Rattle.rate_matrix.proofs.rows.Elimination.update_first.Goals as goal
 
 pub update_chunks-requires-clause-rows : goal.update_chunks-requires-clause-rows
 update_chunks-requires-clause-rows g c _ _ =
-    let column = c.requires.rows.column in
-    subst (λ r. CanEliminate c.args.self.now.state c.args.self.now.scale c.args.self.now.flows.now c.args.self.now.parts.now
-    (rows_from c.args.first r c.args.left c.args.width (take (c.args.rows * c.args.width) c.args.cells.now)))
-    (sym (rows_taken c.args.cells.now c.args.rows c.args.width (omega arith) c.requires.inside))
+    can_first_rows c.args.self.now c.args.first c.args.rows c.args.left c.args.width c.args.cells.now c.requires.inside
     c.requires.rows
 
 pub returns-clause-rows : goal.returns-clause-rows
 returns-clause-rows g c =
-    let column = c.requires.rows.column in
-    let done = c.update_chunks.ensures in
-    let len = done.count ∙ length_taken c.args.cells.now (c.args.rows * c.args.width) c.requires.inside in
-    subst (AreAfter c.args.self.now.state c.args.self.now.scale c.args.self.now.flows.now c.args.self.now.parts.now
+    let done = first_rows_after c.args.self.now c.args.first c.args.rows c.args.left c.args.width c.args.cells.now
+    c.requires.inside c.requires.rows c.update_chunks.new.rows c.update_chunks.ensures in
+    subst (AreAfter c.args.self.now
     (rows_from c.args.first c.args.rows c.args.left c.args.width (take (c.args.rows * c.args.width) c.args.cells.now)))
-    (sym (take_at c.update_chunks.new.rows _ _ len))
-    (subst (λ r. AreAfter c.args.self.now.state c.args.self.now.scale c.args.self.now.flows.now c.args.self.now.parts.now
-    (rows_from c.args.first r c.args.left c.args.width (take (c.args.rows * c.args.width) c.args.cells.now)) c.update_chunks.new.rows)
-    (rows_taken c.args.cells.now c.args.rows c.args.width (omega arith) c.requires.inside) done)
+    (sym (take_at c.update_chunks.new.rows _ _ done.0)) done.1

@@ -5,5 +5,5 @@ use Rattle.rate_matrix.proofs.rows.Elimination.update_rows.Given as goal
 
 abbrev pub invariant-loop-r : goal.invariant-loop-r
 invariant-loop-r g l =
-    AreRowsUpdatedTo l.self.state l.self.scale l.self.flows.now l.self.parts.now
+    AreRowsUpdatedTo l.self
     (rows_from l.first (length l.initial.rows / l.width) l.left l.width l.initial.rows) l.rows l.r

@@ -1,0 +1,5 @@
+use Rattle.plan_solver.proofs.AllMeasures.{enclosure_contains, enclosure_in_range, one_enclosure}
+use Rattle.plan_solver.proofs.laws.law_enclosure.Goals as goal
+
+pub returns : goal.returns
+returns c = record { alone = one_enclosure; contains = enclosure_contains; in_range = enclosure_in_range }

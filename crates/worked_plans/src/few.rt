@@ -1,0 +1,196 @@
+//! Plans of one to three units.
+
+/// One unit serves two calls while one comes: a third of them is lost.
+pub const HALF_LOAD: &str = "\
+unit,A,2
+atom,P,1,0,0,A
+travel,P,P,300
+at,A,P,1000
+prefer,P,A
+";
+
+/// A unit that serves three calls for each that comes. 2^52 is not divisible by 3, so the weights are rounded.
+pub const THIRD_LOAD: &str = "\
+unit,A,3
+atom,P,1,0,0,A
+travel,P,P,300
+at,A,P,1000
+prefer,P,A
+";
+
+/// The same unit, if calls that find it busy wait.
+pub const THIRD_LOAD_WITH_A_QUEUE: &str = "\
+unit,A,3
+atom,P,1,0,0,A
+travel,P,P,300
+at,A,P,1000
+prefer,P,A
+line,infinite
+";
+
+/// Of 100,000 calls for each 199,999 services, 100,000 of 299,999 are lost.
+pub const LITTLE_MORE: &str = "\
+unit,A,199999
+atom,P,100000,0,0,A
+travel,P,P,300
+at,A,P,1000
+prefer,P,A
+";
+
+/// A unit that serves one call while ten come.
+pub const TEN_LOADS: &str = "\
+unit,A,1
+atom,P,10,0,0,A
+travel,P,P,300
+at,A,P,1000
+prefer,P,A
+";
+
+/// Calls that wait for a unit which serves a million while 999,999 come.
+pub const ALL_BUT_FULL: &str = "\
+unit,A,1000000
+atom,P,999999,0,0,A
+travel,P,P,300
+at,A,P,1000
+prefer,P,A
+line,infinite
+";
+
+/// Two units with opposite lists: 2 calls of 17 are lost.
+pub const TWO_UNITS: &str = "\
+unit,A,3
+unit,B,3
+atom,P,1,0,0,A
+atom,Q,1,9,0,B
+travel,P,P,60
+travel,P,Q,300
+travel,Q,P,300
+travel,Q,Q,60
+at,A,P,1000
+at,B,Q,1000
+prefer,P,A,B
+prefer,Q,B,A
+";
+
+/// The same units, if no calls come from the atom of the second.
+pub const WITHOUT_CALLS: &str = "\
+unit,A,3
+unit,B,3
+atom,P,1,0,0,A
+atom,Q,0,9,0,B
+travel,P,P,60
+travel,P,Q,300
+travel,Q,P,300
+travel,Q,Q,60
+at,A,P,1000
+at,B,Q,1000
+prefer,P,A,B
+prefer,Q,B,A
+";
+
+/// Two units at one atom, the first of which is sent first.
+pub const ONE_LIST: &str = "\
+unit,A,3
+unit,B,3
+atom,P,2,0,0,A
+travel,P,P,300
+at,A,P,1000
+at,B,P,1000
+prefer,P,A,B
+";
+
+/// Two like units, of which chance sends one to each call.
+pub const ONE_GROUP: &str = "\
+version,2
+unit,A,3
+unit,B,3
+atom,P,1,0,0,A
+atom,Q,1,9,0,B
+travel,P,P,60
+travel,P,Q,300
+travel,Q,P,300
+travel,Q,Q,60
+at,A,P,1000
+at,B,Q,1000
+group,P,A,B
+group,Q,A,B
+";
+
+/// Three units, so seldom busy that the third is next to never sent.
+pub const THREE_UNITS: &str = "\
+unit,A,300000
+unit,B,300000
+unit,C,300000
+atom,P,1,0,0,A
+travel,P,P,300
+at,A,P,1000
+at,B,P,1000
+at,C,P,1000
+prefer,P,A,B,C
+";
+
+/// Three unlike units, in lists with groups and without, and calls wait.
+pub const THREE_UNLIKE: &str = "\
+version,2
+line,infinite
+period,86400
+unit,A,7
+unit,B,5
+unit,C,11
+atom,P,4,0,0,A
+atom,Q,6,9,0,B
+atom,R,3,9,9,C
+travel,P,P,90
+travel,P,Q,410
+travel,P,R,720
+travel,Q,P,380
+travel,Q,Q,60
+travel,Q,R,300
+travel,R,P,700
+travel,R,Q,290
+travel,R,R,80
+at,A,P,800
+at,A,Q,200
+at,B,Q,1000
+at,C,R,650
+at,C,P,350
+group,P,A
+group,P,C,B
+group,Q,B,A
+group,Q,C
+prefer,R,C,B,A
+";
+
+/// Two units at one atom, and two atoms at one place. It has no rule yet.
+pub const BOTH_AT_ONE: &str = "\
+unit,A,3
+unit,B,3
+atom,P,1,0,0,A
+atom,Q,1,0,0,B
+travel,P,P,60
+travel,P,Q,300
+travel,Q,P,300
+travel,Q,Q,60
+at,A,P,1000
+at,B,P,1000
+";
+
+/// Two units and an atom between them, nearer to the unit that does not have it in its district. It has no rule yet.
+pub const BETWEEN: &str = "\
+unit,A,3
+unit,B,3
+atom,P,1,0,0,A
+atom,R,3,120,0,A
+atom,Q,1,200,0,B
+travel,P,P,60
+travel,P,R,60
+travel,P,Q,60
+travel,R,P,60
+travel,R,R,60
+travel,R,Q,60
+travel,Q,P,60
+travel,Q,R,60
+travel,Q,Q,60
+at,A,P,1000
+at,B,Q,1000
+";

@@ -1,0 +1,13 @@
+//! The texts of worked plans, each once, for tests over several crates and for programs that take times.
+#![tactic(auto)]
+
+mod few;
+mod grids;
+mod many;
+
+pub use few::{
+    ALL_BUT_FULL, BETWEEN, BOTH_AT_ONE, HALF_LOAD, LITTLE_MORE, ONE_GROUP, ONE_LIST, TEN_LOADS,
+    THIRD_LOAD, THIRD_LOAD_WITH_A_QUEUE, THREE_UNITS, THREE_UNLIKE, TWO_UNITS, WITHOUT_CALLS,
+};
+pub use grids::{grid, widest};
+pub use many::{ELEVEN_UNITS, SEVEN_OVERLOADED, SEVEN_SWAMPED, SIX_IN_GROUPS, SIX_WITH_A_QUEUE};

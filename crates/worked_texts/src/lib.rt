@@ -1,0 +1,13 @@
+//! Texts of plans: what the crates that read them find, step by step, and why they refuse. Tests alone.
+#![tactic(auto)]
+
+#[cfg(test)]
+mod accepted;
+#[cfg(test)]
+mod large;
+#[cfg(test)]
+mod pieces;
+#[cfg(test)]
+mod refused;
+#[cfg(test)]
+mod steps;

@@ -1,5 +1,0 @@
-use Rattle.std.proofs.Common.{◌≡◌, ◌+◌, length}
-use Rattle.workload_measures.proofs.tests.weights_of.Given as goal
-
-abbrev pub invariant-loop-mass : goal.invariant-loop-mass
-invariant-loop-mass g l = l.weights.spare + l.mass-index ≡ length l.masses
