@@ -1,4 +1,4 @@
-//! The program: the words of the command line over real files and standard output.
+//! The program: the arguments of the command line over real files and standard output.
 #![tactic(auto)]
 
 use hypercube_cli::{Outcome, hypercube, status};
@@ -8,23 +8,23 @@ use std::alloc::AllocError;
 use std::env;
 use std::process::ExitCode;
 
-/// The words behind the program's name; none where one of them is no text.
-fn words_of(rt: &HostRuntime) -> Result<Vec<String>, AllocError> {
-    let mut words = Vec::new(rt.alloc());
+/// The arguments after the program's name; none if one of them is no text.
+fn arguments_of(rt: &HostRuntime) -> Result<Vec<String>, AllocError> {
+    let mut arguments = Vec::new(rt.alloc());
     if let Ok(all) = env::args(rt) {
-        for word in all.skip(1) {
-            words.push(word)?;
+        for argument in all.skip(1) {
+            arguments.push(argument)?;
         }
     }
-    Ok(words)
+    Ok(arguments)
 }
 
 fn main(rt: HostRuntime) -> ExitCode {
-    let outcome = match words_of(&rt) {
-        Ok(words) => {
+    let outcome = match arguments_of(&rt) {
+        Ok(arguments) => {
             let mut shelf = FileShelf::of(&rt);
             let mut sink = StdoutSink::of(&rt);
-            hypercube(&rt, rt.alloc(), &words, &mut shelf, &mut sink, &OpenGate)
+            hypercube(&rt, rt.alloc(), &arguments, &mut shelf, &mut sink, &OpenGate)
         }
         Err(_) => Outcome::NoMemory,
     };

@@ -1,5 +1,7 @@
 -- lemmas, each file on one subject
 pub mod ReadPlans
 pub mod WideMeasures
+pub mod TrueReports
 pub mod TrueComparisons
+pub mod Faults
 pub mod Endings

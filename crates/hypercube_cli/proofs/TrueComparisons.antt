@@ -1,33 +1,58 @@
--- A comparison that was written is true of the plans that were enclosed.
-use Rattle.std.proofs.Common.{◌≡◌, List, length}
-use Rattle.std.specs.Prelude.{Result, Ok, Err, IfOk}
+-- What is proved of the plans that are compared.
+use Rattle.std.proofs.Common.{◌≡◌, ℕ, List, [], ◌∷◌, length, map, All, refl}
+use Rattle.std.specs.Prelude.{Option, Some, None, Ok, IfSome}
+use Rattle.std.proofs.lemmas.List.Elements.{All-cons, All-head, All-nil, All-tail}
 use Rattle.std.proofs.lemmas.Slice.Zip.{AllZip-long}
 use Rattle.hyper_model.specs.Enclosures.{EnclosureList}
+use Rattle.hyper_model.specs.Plans.{IsAccepted}
+use Rattle.hyper_model.specs.Laws.{HavePositiveDenominators}
+use Rattle.hyper_model.specs.Solutions.{HasSolution}
 use Rattle.hyper_model.specs.declared.parts.PlanParts.{PlanParts}
-use Rattle.plan_compare.specs.Comparisons.{comparison_bytes}
+use Rattle.hyper_model.proofs.Denominators.{denominator_positive}
+use Rattle.hyper_model.proofs.PlanLaws.{has_solution}
+use Rattle.outer_world.specs.declared.named_text.NamedText.{NamedText}
 use Rattle.plan_compare.specs.Enclosing.{AreEnclosuresOf}
-use Rattle.plan_compare.specs.Studies.{StudyParts}
-use Rattle.plan_compare.specs.Truth.{AreContained, AreTrue}
-use Rattle.plan_compare.specs.Verdicts.{verdicts_of}
 use Rattle.plan_solver.specs.Enclosures.{IsEnclosureOf}
-use Rattle.hypercube_cli.specs.Comparing.{IsTrueComparison}
-use Rattle.hypercube_cli.specs.declared.answer.Answer.{Answer}
+use Rattle.plan_solver.proofs.AllMeasures.{one_enclosure}
+use Rattle.plan_compare.specs.Studies.{StudyParts}
 use Rattle.hypercube_cli.specs.declared.outcome.Outcome.TheVariants as outcome
+use Rattle.hypercube_cli.specs.Endings.{Ending}
+use Rattle.hypercube_cli.specs.Tasks.Comparisons.{IsProvedComparison, IsTrueComparison, plans_from, study_at}
 
 pub as_many : (plans : List PlanParts) (found : List EnclosureList) → AreEnclosuresOf plans found → length found ≡ length plans
 as_many plans found are = AllZip-long (λ p list. IsEnclosureOf p list.items) plans found are
 
-pub true_comparison : {E : Type 0} (study : StudyParts) (plans : List PlanParts) (found : List EnclosureList)
-    → AreEnclosuresOf plans found → (result : Result Answer E)
-    → IfOk result (λ answer. answer.outcome ≡ outcome.Done → answer.text.items ≡ comparison_bytes study found)
-    → IfOk result (λ _. AreContained study found)
-    → IfOk result (λ _. AreTrue study found (verdicts_of study found))
-    → IfOk result (λ answer. answer.outcome ≡ outcome.Done → IsTrueComparison study plans answer.text.items)
-true_comparison study plans found are (Ok answer) text contains separates = λ done. record {
-  found = found;
-  enclosed = are;
-  written = text done;
-  contains = contains;
-  separates = separates;
+-- there is one list for each plan
+pub same_enclosures : (plans : List PlanParts) (found others : List EnclosureList) → AreEnclosuresOf plans found
+    → AreEnclosuresOf plans others → map (λ (e : EnclosureList). e.items) others ≡ map (λ (e : EnclosureList). e.items) found
+same_enclosures [] [] [] are same = refl
+same_enclosures [] [] (o ∷ os) are same = absurd same
+same_enclosures [] (f ∷ fs) others are same = absurd are
+same_enclosures (p ∷ ps) [] others are same = absurd are
+same_enclosures (p ∷ ps) (f ∷ fs) [] are same = absurd same
+same_enclosures (p ∷ ps) (f ∷ fs) (o ∷ os) are same =
+    rw (one_enclosure p f.items o.items are.0 same.0, same_enclosures ps fs os are.1 same.1) refl
+
+-- what each accepted plan has
+have_each : (P : PlanParts → Type 0) → ((p : PlanParts) → IsAccepted p → P p) → (plans : List PlanParts)
+    → All IsAccepted plans → All P plans
+have_each P of_one [] accepted = All-nil P
+have_each P of_one (p ∷ ps) accepted =
+    All-cons P p ps (of_one p (All-head IsAccepted p ps accepted)) (have_each P of_one ps (All-tail IsAccepted p ps accepted))
+
+-- what is proved of the plans of the study that was read
+pub proved_comparison : (told : Option (List NamedText)) (name : List ℕ) (study : StudyParts) (plans : List PlanParts) (ending : Ending)
+    → IfSome told (λ texts. study_at texts name ≡ Ok study) → IfSome told (λ texts. plans_from texts 1 study.plans ≡ Ok plans)
+    → All IsAccepted plans → (ending.outcome ≡ outcome.Done → IsTrueComparison study plans ending.text)
+    → IfSome told (λ texts. ending.outcome ≡ outcome.Done → IsProvedComparison texts name ending.text)
+proved_comparison None name study plans ending read plans_read accepted proved = tt
+proved_comparison (Some texts) name study plans ending read plans_read accepted proved = λ done. record {
+  study = study;
+  plans = plans;
+  read = read;
+  plans_read = plans_read;
+  accepted = accepted;
+  solvable = have_each HasSolution has_solution plans accepted;
+  positive = have_each HavePositiveDenominators denominator_positive plans accepted;
+  compared = proved done;
 }
-true_comparison study plans found are (Err e) text contains separates = tt

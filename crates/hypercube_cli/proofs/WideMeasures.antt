@@ -8,7 +8,7 @@ use Rattle.hyper_model.specs.declared.kinds.Measure.{Measure}
 use Rattle.hyper_model.specs.declared.parts.PlanParts.{PlanParts}
 use Rattle.hyper_model.specs.Measures.{IsInRange}
 use Rattle.report_text.specs.declared.ending.Widths.{Widths}
-use Rattle.report_text.specs.Reports.{is_printed, printed}
+use Rattle.report_text.specs.Reports.{is_printed, printed_items}
 use Rattle.report_text.specs.declared.ending.ReportEnd.{ReportEnd}
 use Rattle.report_text.specs.declared.ending.ReportEnd.TheVariants as end
 use Rattle.report_text.specs.TooWide.{EndsAt, first_wide, is_wide}
@@ -29,5 +29,5 @@ pub wide_in_range : (p : PlanParts) (widths : Widths) (summary : Bool) (items : 
 wide_in_range p widths summary items ended m lo hi same all ends =
     let is : first_wide widths summary items ≡ Some (record { measure = m; found = found.Ends lo hi }) =
     subst (EndsAt (first_wide widths summary items)) same ends in
-    found_holds (λ (e : Enclosed). IsInRange p e.measure) (is_wide widths) (printed summary items)
+    found_holds (λ (e : Enclosed). IsInRange p e.measure) (is_wide widths) (printed_items summary items)
     (record { measure = m; found = found.Ends lo hi }) (All-filter (is_printed summary) (λ e. IsInRange p e.measure) items all) is

@@ -1,9 +1,11 @@
 pub mod Outcomes
+pub mod Refusals
 pub mod Lines
 pub mod Endings
+pub mod Stops
 pub mod Readings
-pub mod Solving
-pub mod Comparing
-pub mod Making
+pub mod Meanings
+pub mod Tasks
+pub mod Commands
 pub mod Runs
 pub mod Untouched

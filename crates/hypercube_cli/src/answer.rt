@@ -1,8 +1,70 @@
-use crate::Outcome;
+ghost use Rattle.std.specs.Prelude.{◌≡◌, IfOk};
+ghost use Rattle.hypercube_cli.specs.Endings.{IsOwn, done_ending, wide_ending};
 
-/// An outcome, and the text that tells of it.
+use crate::Outcome;
+use crate::lines::wide_text;
+use hyper_model::Measure;
+use std::alloc::{AllocError, Global};
+use std::marker::Model;
+
+/// How a command ends with a text of its own: Done or TooWide, and the text that is to be written.
 #[derive(Drop)]
 pub(crate) struct Answer {
-    pub(crate) outcome: Outcome,
-    pub(crate) text: Vec<u8>,
+    outcome: Outcome,
+    text: Vec<u8>,
+}
+
+impl Model for Answer {
+    ghost use Rattle.hypercube_cli.specs.Endings.{Ending, IsOwn};
+
+    ghost Value = { Ending };
+
+    ghost view = { λ a. record { outcome = a.outcome; text = a.text.items } };
+
+    ghost invariant = { λ a. IsOwn a.outcome };
+}
+
+impl Answer {
+    /// The text of the command.
+    pub fn of_text(text: Vec<u8>) -> Answer
+        ensures { result ≡ done_ending text.items }
+    {
+        Answer {
+            outcome: Outcome::Done,
+            text,
+        }
+    }
+
+    /// The line that says of which measure, by the fields of its own line, the ends lie too far apart in the plan at this
+    /// place.
+    pub fn of_wide(
+        alloc: Global,
+        label: &[u8],
+        place: u32,
+        measure: Measure,
+        low: u64,
+        high: u64,
+    ) -> Result<Answer, AllocError>
+        ensures { IfOk result (λ answer. answer ≡ wide_ending label.now place measure low high) }
+    {
+        Ok(Answer {
+            outcome: Outcome::TooWide(place, measure, low, high),
+            text: wide_text(alloc, label, place, measure, low, high)?,
+        })
+    }
+
+    /// The outcome.
+    pub fn outcome(&self) -> Outcome
+        ensures outcome { result ≡ self.now.outcome }
+        ensures own { IsOwn result }
+    {
+        self.outcome
+    }
+
+    /// The text that is to be written.
+    pub fn text(&self) -> &[u8]
+        ensures { result.now ≡ self.now.text }
+    {
+        &self.text
+    }
 }

@@ -1,16 +1,17 @@
-//! The command line: words in, one outcome and one text out.
+//! The command line: its arguments in, one outcome and one text out.
 #![tactic(auto)]
 
 mod answer;
-mod comparing;
+mod enclosing;
 mod lines;
-mod making;
 mod outcome;
 mod reading;
-mod solving;
+mod refusal;
 mod stop;
+mod tasks;
 mod top;
 
 pub use command_words::{Command, Name255, WordsEnd, read_words};
-pub use outcome::{Outcome, Refusal, status};
+pub use outcome::{Outcome, status};
+pub use refusal::Refusal;
 pub use top::hypercube;

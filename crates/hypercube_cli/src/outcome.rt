@@ -1,28 +1,15 @@
 ghost use Rattle.std.specs.Prelude.{◌≡◌};
 ghost use Rattle.hypercube_cli.specs.Outcomes.{status_of};
 
+use crate::Refusal;
 use hyper_model::Measure;
-use plan_compare::StudyRefusal;
-use plan_maker::MakeRefusal;
-use plan_reader::PlanRefusal;
-
-/// What was refused, and why. It is never for want of memory.
-#[derive(Clone, Copy, Debug, PartialEq, Eq)]
-pub enum Refusal {
-    /// The plan at this place: 1 for the plan that is solved, and from 1 on those of a study.
-    Plan(u32, PlanRefusal),
-    /// The study.
-    Study(StudyRefusal),
-    /// The plan that was to be made.
-    Make(MakeRefusal),
-}
 
 /// How a run ended.
 #[derive(Clone, Copy, Debug, PartialEq, Eq)]
 pub enum Outcome {
     /// The text of the command was written whole.
     Done,
-    /// The words are no command, and the usage line was written.
+    /// The arguments are no command, and the usage line was written.
     Usage,
     /// A text was refused, and the line that says so was written.
     Refused(Refusal),

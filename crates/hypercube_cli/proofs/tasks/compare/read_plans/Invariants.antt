@@ -2,7 +2,7 @@ use Rattle.std.proofs.Common.{◌≡◌, ◌≤◌, All, length}
 use Rattle.std.specs.Prelude.{IfSome}
 use Rattle.hyper_model.specs.Plans.{IsAccepted}
 use Rattle.hypercube_cli.proofs.ReadPlans.{AreReadTo}
-use Rattle.hypercube_cli.proofs.reading.plans_named.Given as goal
+use Rattle.hypercube_cli.proofs.tasks.compare.read_plans.Given as goal
 
 abbrev pub invariant-loop-i : goal.invariant-loop-i
 invariant-loop-i g l = record {

@@ -1,24 +1,29 @@
--- What solving a plan comes to: its report, or the first measure whose ends lie further apart than was asked.
-use Rattle.std.specs.Prelude.{◌≡◌, ℕ, Bool, List, Option, Some, None, Result, Ok, Err}
+-- What it means to solve a plan: its report, or the first measure whose ends lie further apart than was asked.
+use Rattle.std.specs.Prelude.{◌≡◌, ℕ, Bool, true, List, Option, Some, None, Result, Ok}
 use Rattle.hyper_model.specs.declared.kinds.Enclosed.{Enclosed}
 use Rattle.hyper_model.specs.declared.kinds.Found.{Found}
 use Rattle.hyper_model.specs.declared.kinds.Found.TheVariants as found
 use Rattle.hyper_model.specs.declared.kinds.Measure.{Measure}
 use Rattle.hyper_model.specs.declared.parts.PlanParts.{PlanParts}
+use Rattle.hyper_model.specs.Laws.{HavePositiveDenominators}
+use Rattle.hyper_model.specs.Measures.{ContainsSolutions}
+use Rattle.hyper_model.specs.Plans.{IsAccepted}
 use Rattle.hyper_model.specs.Solutions.{HasSolution}
 use Rattle.report_text.specs.declared.ending.Widths.{Widths}
 use Rattle.report_text.specs.Labels.{label_bytes}
 use Rattle.report_text.specs.Reports.{report_bytes}
 use Rattle.report_text.specs.TooWide.{first_wide}
-use Rattle.plan_solver.specs.Enclosures.{ContainsSolutions, IsEnclosureOf}
-use Rattle.hypercube_cli.specs.Endings.{Ending, done_ending, wide_ending}
+use Rattle.plan_solver.specs.Enclosures.{IsEnclosureOf}
+use Rattle.hypercube_cli.specs.Endings.{Ending, EndsFrom, done_ending, wide_ending}
+use Rattle.hypercube_cli.specs.Meanings.{Meaning}
+use Rattle.hypercube_cli.specs.Readings.{plan_at}
 
 -- a measure without ends is never too wide
 abbrev pub wide_found : PlanParts → Measure → Found → Ending → Ending
 wide_found p m (found.Ends lo hi) narrow = wide_ending (label_bytes p m) 1 m lo hi
 wide_found p m found.Without narrow = narrow
 
--- the measure that is too wide, or this ending where none is
+-- the measure that is too wide, or this ending if none is
 abbrev pub unless_wide : PlanParts → Option Enclosed → Ending → Ending
 unless_wide p None narrow = narrow
 unless_wide p (Some e) narrow = wide_found p e.measure e.found narrow
@@ -33,18 +38,25 @@ pub record IsReported (p : PlanParts) (widths : Widths) (summary : Bool) (ending
   pub enclosed : IsEnclosureOf p items
   pub ends : ending ≡ report_ending p widths summary items
 
--- or for a text that has none
-abbrev pub IsSolved : Result PlanParts Ending → Widths → Bool → Ending → Type 0
-IsSolved (Ok p) widths summary ending = IsReported p widths summary ending
-IsSolved (Err stopped) widths summary ending = ending ≡ stopped
-
--- The text is the report, or the summary, of this plan. Its balance equations have a solution, and for each of their
--- solutions the ends of every measure contain what Larson's formulas give.
+-- The text is the report, or the summary, of this plan, which is accepted. Its balance equations have a solution. There
+-- is one list of measures with the ends of the method, and for each solution these contain what Larson's formulas give:
+-- a ratio whose denominator is positive.
 pub record IsProvedReport (given : Result PlanParts Ending) (summary : Bool) (text : List ℕ) : Type 0 where
   pub plan : PlanParts
   pub items : List Enclosed
   pub read : given ≡ Ok plan
+  pub accepted : IsAccepted plan
   pub enclosed : IsEnclosureOf plan items
+  pub alone : (others : List Enclosed) → IsEnclosureOf plan others → others ≡ items
   pub written : text ≡ report_bytes plan items summary
   pub solvable : HasSolution plan
+  pub positive : HavePositiveDenominators plan
   pub contains : ContainsSolutions plan items
+
+abbrev pub solve_meaning : List ℕ → Widths → Bool → Meaning
+solve_meaning file widths summary = record {
+  ends = λ texts. EndsFrom (plan_at texts 1 file) (λ plan. IsReported plan widths summary);
+  proves = λ texts. IsProvedReport (plan_at texts 1 file) summary;
+  asks = λ told fault. fault ≡ Some file;
+  reads = true;
+}

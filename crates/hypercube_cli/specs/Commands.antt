@@ -1,0 +1,24 @@
+-- The meaning of each command, and of arguments that are none.
+use Rattle.std.specs.Prelude.{◌≡◌, false, Option, Some, None}
+use Rattle.command_words.specs.declared.command.Command.{Command}
+use Rattle.command_words.specs.declared.command.Command.TheVariants as command
+use Rattle.hypercube_cli.specs.Endings.{usage_ending}
+use Rattle.hypercube_cli.specs.Meanings.{Meaning}
+use Rattle.hypercube_cli.specs.Tasks.Comparisons.{compare_meaning}
+use Rattle.hypercube_cli.specs.Tasks.MadePlans.{make_meaning}
+use Rattle.hypercube_cli.specs.Tasks.Reports.{solve_meaning}
+
+-- it ends with the usage line, and never well
+abbrev pub usage_meaning : Meaning
+usage_meaning = record {
+  ends = λ texts ending. ending ≡ usage_ending;
+  proves = λ texts text. ⊥;
+  asks = λ told fault. ⊥;
+  reads = false;
+}
+
+abbrev pub meaning_of : Option Command → Meaning
+meaning_of None = usage_meaning
+meaning_of (Some (command.Solve file widths workers summary)) = solve_meaning file widths summary
+meaning_of (Some (command.Compare study widths workers)) = compare_meaning study widths
+meaning_of (Some (command.Make units number)) = make_meaning units number

@@ -1,0 +1,3 @@
+pub mod Reports
+pub mod Comparisons
+pub mod MadePlans

@@ -1,0 +1,98 @@
+ghost use Rattle.std.specs.Prelude.{◌≡◌, ◌≤◌, ℕ, Some, false, IfErr, IfOk, IfSome};
+ghost use Rattle.std.specs.Result.{IsErrOf};
+ghost use Rattle.outer_world.specs.Faults.{Rose};
+ghost use Rattle.command_words.specs.Command.{WorkersInRange};
+ghost use Rattle.command_words.specs.Options.{AreWorkers};
+ghost use Rattle.plan_compare.specs.Enclosing.{AreEnclosuresOf};
+ghost use Rattle.hypercube_cli.specs.Meanings.{Meaning, texts_for};
+ghost use Rattle.hypercube_cli.specs.Commands.{meaning_of};
+ghost use Rattle.hypercube_cli.specs.Runs.{Answers};
+ghost use Rattle.hypercube_cli.specs.Stops.{IsOfCommand};
+ghost use Rattle.hypercube_cli.specs.Untouched.{IsUntouched};
+
+mod compare;
+mod make;
+mod solve;
+
+use crate::Outcome;
+use crate::answer::Answer;
+use crate::stop::Stop;
+use command_words::Command;
+use compare::Compare;
+use hyper_model::{Enclosures, Plan};
+use make::Make;
+use outer_world::Shelf;
+use solve::Solve;
+use std::alloc::{AllocError, Global};
+
+/// What a command asks for, done over any shelf.
+///
+/// A task knows neither threads nor a gate: whoever does it hands in what encloses plans by so many workers.
+pub(crate) trait Task {
+    ghost meaning: { Self → Meaning };
+
+    // Whether the number of its workers is in range, if it is done by workers.
+    ghost has_workers: { Self → Type 0 };
+
+    /// What it comes to.
+    fn answer<S: Shelf, E: Fn(&[Plan], u32) -> Result<Vec<Enclosures>, AllocError>>(
+        self,
+        alloc: Global,
+        shelf: &mut S,
+        enclose: &E,
+    ) -> Result<Answer, Stop>
+        requires workers { has_workers self }
+        requires may_enclose { (plans : _) (workers : ℕ) → AreWorkers workers → E.pre enclose.now plans workers }
+        requires encloses { (plans : _) (workers : ℕ) (found : _) → E.post enclose.now plans workers found
+            → IfOk found (λ found. AreEnclosuresOf plans.now found.items) }
+        ensures ending { IfSome (texts_for (meaning self) (S.told shelf.old)) (λ texts.
+            Answers ((meaning self).ends texts) result) }
+        ensures proved { IfSome (texts_for (meaning self) (S.told shelf.old)) (λ texts.
+            IfOk result (λ answer. answer.outcome ≡ Outcome.Done → (meaning self).proves texts answer.text)) }
+        ensures stop { IfErr result IsOfCommand }
+        ensures fault { IsErrOf result Stop.ReadFault → Rose S.last_count (S.faults shelf.old) (S.faults shelf.new)
+            × (meaning self).asks (S.told shelf.old) (S.last_fault shelf.new) }
+        ensures untouched { (meaning self).reads ≡ false →
+            IsUntouched S.told S.left S.open_name S.faults S.last_fault shelf.old shelf.new }
+        ensures told { S.told shelf.new ≡ S.told shelf.old }
+        ensures count { S.faults shelf.old ≤ S.faults shelf.new };
+}
+
+impl Task for Command {
+    ghost meaning = { λ command. meaning_of (Some command) };
+
+    ghost has_workers = { WorkersInRange };
+
+    fn answer<S: Shelf, E: Fn(&[Plan], u32) -> Result<Vec<Enclosures>, AllocError>>(
+        self,
+        alloc: Global,
+        shelf: &mut S,
+        enclose: &E,
+    ) -> Result<Answer, Stop> {
+        match self {
+            Command::Solve {
+                file,
+                widths,
+                workers,
+                summary,
+            } => Solve {
+                file,
+                widths,
+                workers,
+                summary,
+            }
+            .answer(alloc, shelf, enclose),
+            Command::Compare {
+                study,
+                widths,
+                workers,
+            } => Compare {
+                study,
+                widths,
+                workers,
+            }
+            .answer(alloc, shelf, enclose),
+            Command::Make { units, number } => Make { units, number }.answer(alloc, shelf, enclose),
+        }
+    }
+}
