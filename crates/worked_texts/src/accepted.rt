@@ -1,105 +1,83 @@
+ghost use Rattle.std.specs.Prelude.{◌<◌, length};
+
 use crate::pieces::*;
-use hyper_model::{Line, Lists, Rule};
+use hyper_model::{Lists, Plan};
 use plan_reader::read_plan;
+use std::alloc::{AllocError, Global};
 use std::process::Abort;
 use std::test::Fail;
 use worked_plans::{BETWEEN, BOTH_AT_ONE};
 
 #[test]
 fn texts_give_these_plans(rt: HostRuntime) -> Result<(), Fail> {
-    for (pieces, line, rule, period, rates, lists) in PLANS {
+    for (pieces, wanted) in PLANS {
         let text = text_of(rt.alloc(), pieces)?;
         let plan = read_plan(rt.alloc(), text.as_bytes())?;
-        assert_eq!(rt; plan.unit(0).name.text(), "A");
-        assert!(rt; plan.line() == line && plan.rule() == rule);
-        assert_eq!(rt; plan.period(), period);
-        assert_eq!(rt; (plan.travel(0, 0), plan.calls(), plan.service()), rates);
-        check_lists(&rt, plan.lists(), lists);
+        let found = description_of(&rt, rt.alloc(), &plan)?;
+        assert_eq!(rt; found.as_str(), wanted);
     }
     Ok(())
 }
 
-fn check_lists(rt: &impl Abort, lists: &Lists, wanted: Ranking) {
-    assert_eq!(rt; lists.atoms(), wanted.len());
-    for (atom, ranked) in wanted.iter().enumerate() {
-        for (place, (unit, begins)) in ranked.iter().enumerate() {
-            assert!(rt; atom < lists.atoms() && place < lists.units());
-            assert_eq!(rt; lists.unit(atom, place), *unit);
-            assert_eq!(rt; lists.begins(atom, place), *begins);
-        }
+/// The settings of a plan, the time of its first trip, the rates of all calls and of all service, and its lists.
+fn description_of(rt: &impl Abort, alloc: Global, plan: &Plan) -> Result<String, AllocError> {
+    assert!(rt; 0 < plan.atoms());
+    let (line, rule, period) = (plan.line(), plan.rule(), plan.period());
+    let (calls, service) = (plan.calls(), plan.service());
+    let trip = plan.travel(0, 0);
+    let mut text = format!(in alloc; "{line:?} {rule:?} {period}, {trip}, {calls} of {service},")?;
+    let lists = plan.lists();
+    for atom in 0..lists.atoms() {
+        push_list(&mut text, lists, atom)?;
     }
+    Ok(text)
 }
 
-/// For each atom the units in their order, each with whether it begins a group.
-type Ranking = &'static [&'static [(u8, bool)]];
-
-/// A text, its settings, the time of its first trip with the rates of all calls and all service, and its lists.
-type Read = (Pieces, Line, Rule, u32, (u32, u32, u32), Ranking);
-
-const ALONE: Ranking = &[&[(0, true)]];
-
-const FIRST: &[(u8, bool)] = &[(0, true), (1, true)];
-
-const SECOND: &[(u8, bool)] = &[(1, true), (0, true)];
-
-const BOTH: &[(u8, bool)] = &[(0, true), (1, false)];
-
-const OPPOSITE: Ranking = &[FIRST, SECOND];
+/// An atom's units in their order, by letters: a unit of the same group as the one before it stands after a `=`.
+fn push_list(text: &mut String, lists: &Lists, atom: usize) -> Result<(), AllocError>
+    requires { atom < length lists.now.rows }
+{
+    text.push(' ')?;
+    for place in 0..lists.units() {
+        if !lists.begins(atom, place) {
+            text.push('=')?;
+        }
+        text.push(char::from(b'A'.wrapping_add(lists.unit(atom, place))))?;
+    }
+    Ok(())
+}
 
 /// Three atoms of unit B's district have no calls: two are where A is, and one where B is.
 const WITHOUT_CALLS: &str =
     "unit,A,3\nunit,B,3\natom,P,1,0,0,A\natom,Q,0,200,0,B\natom,S,0,0,0,B\natom,T,0,0,0,B\ntravel,P,P,1\ntravel,P,Q,1\ntravel,P,S,1\ntravel,P,T,1\ntravel,Q,P,1\ntravel,Q,Q,1\ntravel,Q,S,1\ntravel,Q,T,1\ntravel,S,P,1\ntravel,S,Q,1\ntravel,S,S,1\ntravel,S,T,1\ntravel,T,P,1\ntravel,T,Q,1\ntravel,T,S,1\ntravel,T,T,1\nat,A,P,1000\nat,B,Q,1000\n";
 
-/// One plan in seven ways to write it, settings given and not given, rates up to the most that they may sum to, lists of
-/// records, and lists by distance, where units at one distance are told apart by the atom's own district.
-const PLANS: [Read; 25] = [
+/// Texts, and the plans that they give: one plan in seven ways to write it, settings given and not given, rates up to the
+/// most that they may sum to, lists of records, and lists by distance, where units at one distance are told apart by the
+/// atom's own district.
+const PLANS: [(Pieces, &str); 25] = [
     (
         &[UNIT, ATOM, TRIP, PLACE, LIST],
-        Line::Zero,
-        Rule::Given,
-        3600,
-        (300, 1, 2),
-        ALONE,
+        "Zero Given 3600, 300, 1 of 2, A",
     ),
     (
         &[LIST, PLACE, TRIP, ATOM, UNIT],
-        Line::Zero,
-        Rule::Given,
-        3600,
-        (300, 1, 2),
-        ALONE,
+        "Zero Given 3600, 300, 1 of 2, A",
     ),
     (
         &["\"unit\",A,\"2\"\n", ATOM, TRIP, PLACE, LIST],
-        Line::Zero,
-        Rule::Given,
-        3600,
-        (300, 1, 2),
-        ALONE,
+        "Zero Given 3600, 300, 1 of 2, A",
     ),
     (
         &[" unit , A , 2 ,,,\n", ATOM, TRIP, PLACE, LIST],
-        Line::Zero,
-        Rule::Given,
-        3600,
-        (300, 1, 2),
-        ALONE,
+        "Zero Given 3600, 300, 1 of 2, A",
     ),
     (
         &["unit,A,000000002\n", ATOM, TRIP, PLACE, LIST],
-        Line::Zero,
-        Rule::Given,
-        3600,
-        (300, 1, 2),
-        ALONE,
+        "Zero Given 3600, 300, 1 of 2, A",
     ),
     (
         &["\u{FEFF}\u{FEFF}unit,A,2\n", ATOM, TRIP, PLACE, LIST],
-        Line::Zero,
-        Rule::Given,
-        3600,
-        (300, 1, 2),
-        ALONE,
+        "Zero Given 3600, 300, 1 of 2, A",
     ),
     (
         &[
@@ -108,19 +86,11 @@ const PLANS: [Read; 25] = [
             TRIP,
             "\tat\t,A,P,1000\nprefer,P,A",
         ],
-        Line::Zero,
-        Rule::Given,
-        3600,
-        (300, 1, 2),
-        ALONE,
+        "Zero Given 3600, 300, 1 of 2, A",
     ),
     (
         &[UNITS, ATOMS, TRIPS, PLACES, LISTS],
-        Line::Zero,
-        Rule::Given,
-        3600,
-        (60, 2, 6),
-        OPPOSITE,
+        "Zero Given 3600, 60, 2 of 6, AB BA",
     ),
     (
         &[
@@ -130,11 +100,7 @@ const PLANS: [Read; 25] = [
             TRIPS,
             PLACES,
         ],
-        Line::Infinite,
-        Rule::Modified,
-        86_400,
-        (60, 2, 6),
-        OPPOSITE,
+        "Infinite Modified 86400, 60, 2 of 6, AB BA",
     ),
     (
         &[
@@ -145,11 +111,7 @@ const PLANS: [Read; 25] = [
             PLACES,
             "version,1\nline,zero\nrule,strict\n",
         ],
-        Line::Zero,
-        Rule::Strict,
-        100_000_000,
-        (60, 2, 6),
-        OPPOSITE,
+        "Zero Strict 100000000, 60, 2 of 6, AB BA",
     ),
     (
         &[
@@ -159,11 +121,7 @@ const PLANS: [Read; 25] = [
             PLACES,
             LISTS,
         ],
-        Line::Zero,
-        Rule::Given,
-        3600,
-        (60, 1, 6),
-        OPPOSITE,
+        "Zero Given 3600, 60, 1 of 6, AB BA",
     ),
     (
         &[
@@ -173,19 +131,11 @@ const PLANS: [Read; 25] = [
             PLACES,
             LISTS,
         ],
-        Line::Zero,
-        Rule::Given,
-        3600,
-        (60, 1_000_000, 6),
-        OPPOSITE,
+        "Zero Given 3600, 60, 1000000 of 6, AB BA",
     ),
     (
         &["unit,A,999999\nunit,B,1\n", ATOMS, TRIPS, PLACES, LISTS],
-        Line::Zero,
-        Rule::Given,
-        3600,
-        (60, 2, 1_000_000),
-        OPPOSITE,
+        "Zero Given 3600, 60, 2 of 1000000, AB BA",
     ),
     (
         &[
@@ -196,11 +146,7 @@ const PLANS: [Read; 25] = [
             LISTS,
             "line,infinite\n",
         ],
-        Line::Infinite,
-        Rule::Given,
-        3600,
-        (60, 2, 3),
-        OPPOSITE,
+        "Infinite Given 3600, 60, 2 of 3, AB BA",
     ),
     (
         &[
@@ -211,27 +157,15 @@ const PLANS: [Read; 25] = [
             LISTS,
             "line,infinite\n",
         ],
-        Line::Infinite,
-        Rule::Given,
-        3600,
-        (60, 999_999, 1_000_000),
-        OPPOSITE,
+        "Infinite Given 3600, 60, 999999 of 1000000, AB BA",
     ),
     (
         &["version,1\n", UNITS, ATOMS, TRIPS, PLACES, LISTS],
-        Line::Zero,
-        Rule::Given,
-        3600,
-        (60, 2, 6),
-        OPPOSITE,
+        "Zero Given 3600, 60, 2 of 6, AB BA",
     ),
     (
         &["version,2\n", UNITS, ATOMS, TRIPS, PLACES, LISTS],
-        Line::Zero,
-        Rule::Given,
-        3600,
-        (60, 2, 6),
-        OPPOSITE,
+        "Zero Given 3600, 60, 2 of 6, AB BA",
     ),
     (
         &[
@@ -242,11 +176,7 @@ const PLANS: [Read; 25] = [
             PLACES,
             "group,P,A,B\ngroup,Q,A,B\n",
         ],
-        Line::Zero,
-        Rule::Given,
-        3600,
-        (60, 2, 6),
-        &[BOTH, BOTH],
+        "Zero Given 3600, 60, 2 of 6, A=B A=B",
     ),
     (
         &[
@@ -257,11 +187,7 @@ const PLANS: [Read; 25] = [
             PLACES,
             "group,Q,B\ngroup,P,B,A\ngroup,Q,A\n",
         ],
-        Line::Zero,
-        Rule::Given,
-        3600,
-        (60, 2, 6),
-        &[&[(1, true), (0, false)], SECOND],
+        "Zero Given 3600, 60, 2 of 6, B=A BA",
     ),
     (
         &[
@@ -272,11 +198,7 @@ const PLANS: [Read; 25] = [
             PLACES,
             "group,P,B,A\nprefer,Q,A,B\n",
         ],
-        Line::Zero,
-        Rule::Given,
-        3600,
-        (60, 2, 6),
-        &[&[(1, true), (0, false)], FIRST],
+        "Zero Given 3600, 60, 2 of 6, B=A AB",
     ),
     (
         &[
@@ -284,42 +206,22 @@ const PLANS: [Read; 25] = [
             BETWEEN,
             "prefer,P,A,B\ngroup,Q,A,B\ngroup,R,B\ngroup,R,A\n",
         ],
-        Line::Zero,
-        Rule::Given,
-        3600,
-        (60, 5, 6),
-        &[FIRST, SECOND, BOTH],
+        "Zero Given 3600, 60, 5 of 6, AB BA A=B",
     ),
     (
         &[BETWEEN, "rule,modified\n"],
-        Line::Zero,
-        Rule::Modified,
-        3600,
-        (60, 5, 6),
-        &[FIRST, SECOND, SECOND],
+        "Zero Modified 3600, 60, 5 of 6, AB BA BA",
     ),
     (
         &[BETWEEN, "rule,strict\n"],
-        Line::Zero,
-        Rule::Strict,
-        3600,
-        (60, 5, 6),
-        &[FIRST, FIRST, SECOND],
+        "Zero Strict 3600, 60, 5 of 6, AB AB BA",
     ),
     (
         &[BOTH_AT_ONE, "rule,modified\n"],
-        Line::Zero,
-        Rule::Modified,
-        3600,
-        (60, 2, 6),
-        OPPOSITE,
+        "Zero Modified 3600, 60, 2 of 6, AB BA",
     ),
     (
         &[WITHOUT_CALLS, "rule,strict\n"],
-        Line::Zero,
-        Rule::Strict,
-        3600,
-        (1, 1, 6),
-        &[FIRST, FIRST, FIRST, FIRST],
+        "Zero Strict 3600, 1, 1 of 6, AB AB AB AB",
     ),
 ];

@@ -8,6 +8,6 @@ mod large;
 #[cfg(test)]
 mod pieces;
 #[cfg(test)]
-mod refused;
+mod records;
 #[cfg(test)]
-mod steps;
+mod refused;
