@@ -24,7 +24,14 @@ fn main(rt: HostRuntime) -> ExitCode {
         Ok(arguments) => {
             let mut shelf = FileShelf::of(&rt);
             let mut sink = StdoutSink::of(&rt);
-            hypercube(&rt, rt.alloc(), &arguments, &mut shelf, &mut sink, &OpenGate)
+            hypercube(
+                &rt,
+                rt.alloc(),
+                &arguments,
+                &mut shelf,
+                &mut sink,
+                &OpenGate,
+            )
         }
         Err(_) => Outcome::NoMemory,
     };
