@@ -1,3 +1,5 @@
+ghost use Rattle.std.specs.Prelude.{◌≤◌};
+
 use crate::cases::run;
 use crate::reports::THIRD_LOAD_REPORT;
 use crate::shelves::{shelf_with, words_of};
@@ -94,7 +96,9 @@ fn check_readings<R: Abort + Threads + Sync>(
     text: &str,
     piece: usize,
     written: &str,
-) -> Result<(), Fail> {
+) -> Result<(), Fail>
+    requires { 1 ≤ piece }
+{
     let texts = shelf_with(alloc, text.as_bytes())?;
     let words = words_of(alloc, line)?;
     for call in 1..11 {
