@@ -4,5 +4,6 @@ pub mod CleanedFields
 pub mod WholeReading
 pub mod Front
 pub mod Over
+pub mod RowsLeft
 pub mod RowByRow
 pub mod InForm

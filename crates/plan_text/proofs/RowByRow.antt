@@ -1,9 +1,9 @@
 -- Rows that are read one by one, each after those before it.
-use Rattle.std.proofs.Common.{◌≡◌, ◌∙◌, ℕ, zero, suc, ◌+◌, ◌<◌, ◌≤◌, List, [], ◌∷◌, ◌++◌, length, take, drop, refl, ap, arith, append_assoc}
+use Rattle.std.proofs.Common.{◌≡◌, ◌∙◌, ℕ, zero, suc, ◌+◌, ◌<◌, List, [], ◌∷◌, ◌++◌, length, take, drop, refl, ap, arith, append_assoc}
 use Rattle.std.specs.Prelude.{Bool, false, ◌||◌, Option, Result, Ok, Err, IsOk, slice_index_or}
 use Rattle.std.specs.List.{list_any}
 use Rattle.std.specs.Option.{option_to_list}
-use Rattle.std.proofs.lemmas.List.{append-nil, drop_all, length-take-le, take_more}
+use Rattle.std.proofs.lemmas.List.{append-nil, length-take-le, take_more}
 use Rattle.std.proofs.lemmas.List.Folds.{list_any-append}
 use Rattle.std.proofs.Math.Seq.{drop-cons}
 use Rattle.plan_text.specs.First.{IsFirstRefused}
@@ -57,10 +57,10 @@ unfolding records_after
 records_after-refused rows place front e lt is_read = rw (drop_more rows place lt, is_read) refl
 
 -- after the last row
-pub records_after-done : (rows : List Fields) (place : ℕ) (front : List Record) → length rows ≤ place
+pub records_after-done : (rows : List Fields) (place : ℕ) (front : List Record) → drop place rows ≡ []
     → with_front front (records_after (take place rows) (drop place rows)) ≡ Ok front
 unfolding records_after
-records_after-done rows place front ge = rw (drop_all place rows ge, append-nil front) refl
+records_after-done rows place front none = rw (none, append-nil front) refl
 
 -- the first refusal of rows that stand after others
 record IsFirstBehind (before rows : List Fields) (place : ℕ) (e : TextRefusal) : Type 0 where

@@ -76,11 +76,11 @@ step-ends cfg st.AfterCr c =
     (start_record-ends cfg c)
 
 -- a record that was read leaves no more bytes than there were, in a state between records
-record LeavesBetween (most : ℕ) (p : Read) : Type 0 where
-  fewer : length p.2 ≤ most
-  between : ends_at_end p.1 ≡ false
+pub record LeavesBetween (most : ℕ) (p : Read) : Type 0 where
+  pub fewer : length p.2 ≤ most
+  pub between : ends_at_end p.1 ≡ false
 
-next_record-leaves : (cfg : Config) (s : State) (fields : List (List ℕ)) (field xs : List ℕ) (p : Read)
+pub next_record-leaves : (cfg : Config) (s : State) (fields : List (List ℕ)) (field xs : List ℕ) (p : Read)
     → next_record cfg s fields field xs ≡ Some p → LeavesBetween (length xs) p
 unfolding next_record
 next_record-leaves cfg s fields field [] p h = by (ends_at_end s) h
@@ -105,7 +105,7 @@ next_record-leaves cfg s fields field (c ∷ rest) p h =
     by false ends e more = let left = more e in record { fewer = omega (arith, left.fewer); between = left.between }
 
 -- from a state between records, a record that is found takes a byte
-next_record-takes : (cfg : Config) (s : State) (xs : List ℕ) (p : Read) → ends_at_end s ≡ false
+pub next_record-takes : (cfg : Config) (s : State) (xs : List ℕ) (p : Read) → ends_at_end s ≡ false
     → next_record cfg s [] [] xs ≡ Some p → length p.2 < length xs
 unfolding next_record
 next_record-takes cfg s [] p between h = absurd (cc (rw between at h))

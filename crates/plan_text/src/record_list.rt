@@ -3,18 +3,21 @@ ghost use Rattle.std.specs.Option.{option_to_list};
 ghost use Rattle.plan_text.specs.First.{IsFirstRefused};
 ghost use Rattle.plan_text.specs.Form.{IsInForm};
 ghost use Rattle.plan_text.specs.Reading.{records_after, records_of};
-ghost use Rattle.plan_text.specs.Rows.{Fields};
+ghost use Rattle.plan_text.specs.Rows.{Fields, rows_of};
 ghost use Rattle.plan_text.specs.Steps.{Gives};
 ghost use Rattle.plan_text.specs.declared.refusal.TextRefusal.{TextRefusal};
 
 use crate::kind::says_version_two;
-use crate::{MOST_TEXT_BYTES, Record, RowList, TextRefusal, read_row, rows};
+use crate::row_list::row_reader;
+use crate::{MOST_TEXT_BYTES, Record, Row, TextRefusal, read_row};
+use csv::ByteRecord;
 use std::alloc::Global;
 
 /// The records of a plan's text, in order, without notes and rows that have no field.
 ///
 /// A text of more than [`MOST_TEXT_BYTES`] is refused before it is read. Else the refusal is that of the first row that
-/// is refused, as [`read_row`] reads it; groups are a kind of record after a `version` record whose number is 2.
+/// is refused, as [`read_row`] reads it; groups are a kind of record after a `version` record whose number is 2. No row
+/// is read after one that is refused, and only one is in memory at a time.
 #[tactic(auto, unfolding(crate::specs::Reading::records_of))]
 pub fn records(alloc: Global, bytes: &[u8]) -> Result<Vec<Record>, TextRefusal>
     ensures records { Gives TextRefusal.NoMemory (λ found. found.items) result (records_of bytes.now) }
@@ -23,25 +26,31 @@ pub fn records(alloc: Global, bytes: &[u8]) -> Result<Vec<Record>, TextRefusal>
     if bytes.len() > MOST_TEXT_BYTES {
         return Err(TextRefusal::TooLong(bytes.len() as u64));
     }
-    let Ok(list) = rows(alloc, bytes) else {
-        return Err(TextRefusal::NoMemory)
-    };
-    read_rows(alloc, &list)
+    read_rows(alloc, bytes)
 }
 
-fn read_rows(alloc: Global, rows: &RowList) -> Result<Vec<Record>, TextRefusal>
-    ensures records { Gives TextRefusal.NoMemory (λ found. found.items) result (records_after [] rows.now) }
+fn read_rows(alloc: Global, bytes: &[u8]) -> Result<Vec<Record>, TextRefusal>
+    ensures records { Gives TextRefusal.NoMemory (λ found. found.items) result (records_after [] (rows_of bytes.now)) }
     ensures form { IfOk result (λ found. IsInForm found.items) }
 {
+    let mut reader = row_reader(alloc, bytes);
+    let mut source = ByteRecord::new(alloc);
     let mut found = Vec::new(alloc);
     let mut groups = false;
-    for place in 0..rows.len() {
-        let row = rows.row(place);
-        let read = read_row(alloc, &row, place as u32 + 1, groups)?;
+    let mut number = 0;
+    'rows: loop {
+        let Ok(more) = reader.read_byte_record(&mut source) else {
+            return Err(TextRefusal::NoMemory)
+        };
+        if !more {
+            return Ok(found);
+        }
+        number += 1;
+        let row = Row::of(&source);
+        let read = read_row(alloc, &row, number, groups)?;
         keep(&mut found, read)?;
         groups |= says_version_two(&row);
     }
-    Ok(found)
 }
 
 fn keep(found: &mut Vec<Record>, read: Option<Record>) -> Result<(), TextRefusal>

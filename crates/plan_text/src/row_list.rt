@@ -1,10 +1,12 @@
-ghost use Rattle.std.specs.Prelude.{◌≡◌, ◌<◌, ◌↔◌, IsTrue, [], length, map, IfOk, slice_index_or};
-ghost use Rattle.csv.specs.Reading.{default_config, records, strip_bom};
+ghost use Rattle.std.specs.Prelude.{◌≡◌, ◌<◌, ◌↔◌, IsTrue, [], Some, length, map, IfOk, slice_index_or};
+ghost use Rattle.csv.specs.Reading.{Ready, default_config, reader_config, reader_state, reader_trim, records, source_of};
 ghost use Rattle.csv.specs.Records.{fields_of};
-ghost use Rattle.plan_text.specs.Rows.{rows_of};
+ghost use Rattle.csv.specs.declared.parser.State.TheVariants as st;
+ghost use Rattle.csv.specs.declared.reader.Trim.TheVariants as trim;
+ghost use Rattle.plan_text.specs.Rows.{clean_row, rows_of, without_marks};
 
 use crate::cleaning::{count_fields, skip_marks, trimmed_at};
-use csv::{ByteRecord, ReaderBuilder};
+use csv::{ByteRecord, Reader, ReaderBuilder};
 use std::alloc::{AllocError, Global};
 use std::marker::Model;
 
@@ -28,6 +30,16 @@ impl<'a> Model for Row<'a> {
 }
 
 impl<'a> Row<'a> {
+    /// What counts of a record.
+    pub(crate) fn of(source: &'a ByteRecord) -> Row<'a>
+        ensures { result ≡ clean_row (fields_of source.now) }
+    {
+        Row {
+            source,
+            count: count_fields(source),
+        }
+    }
+
     /// How many fields there are.
     pub fn len(&self) -> usize
         ensures { result ≡ length self.now }
@@ -90,11 +102,7 @@ impl RowList {
         requires { place < length self.now }
         ensures { result ≡ slice_index_or self.now place [] }
     {
-        let source = &self.items[place];
-        Row {
-            source,
-            count: count_fields(source),
-        }
+        Row::of(&self.items[place])
     }
 
     /// How many fields the row at this place has.
@@ -122,19 +130,14 @@ impl RowList {
 pub fn rows(alloc: Global, bytes: &[u8]) -> Result<RowList, AllocError>
     ensures { IfOk result (λ rows. rows ≡ rows_of bytes.now) }
 {
-    let items = all_records(alloc, skip_marks(bytes))?;
+    let items = all_records(alloc, bytes)?;
     Ok(RowList { items })
 }
 
-// Reading bytes that are in memory fails only for lack of memory: any length of a record is allowed, and no field has
-// to be text.
-fn all_records(alloc: Global, text: &[u8]) -> Result<Vec<ByteRecord>, AllocError>
-    ensures { IfOk result (λ found. map fields_of found.items ≡ records default_config (strip_bom text.now)) }
+fn all_records(alloc: Global, bytes: &[u8]) -> Result<Vec<ByteRecord>, AllocError>
+    ensures { IfOk result (λ found. map fields_of found.items ≡ records default_config (without_marks bytes.now)) }
 {
-    let reader = ReaderBuilder::new()
-        .has_headers(false)
-        .flexible(true)
-        .from_reader(alloc, text);
+    let reader = row_reader(alloc, bytes);
     let mut found = Vec::new(alloc);
     for read in reader.into_byte_records() {
         match read {
@@ -143,4 +146,21 @@ fn all_records(alloc: Global, text: &[u8]) -> Result<Vec<ByteRecord>, AllocError
         }
     }
     Ok(found)
+}
+
+/// A reader of the records of a text, after all byte order marks at its start.
+///
+/// It fails only for lack of memory: the bytes are in memory, any length of a record is allowed, and no field has to be
+/// text.
+pub(crate) fn row_reader(alloc: Global, bytes: &[u8]) -> Reader<&[u8]>
+    ensures trim { reader_trim result ≡ trim.None }
+    ensures ready { Ready result }
+    ensures config { reader_config result ≡ default_config }
+    ensures state { reader_state result ≡ st.StartRecord }
+    ensures source { source_of (λ s. Some s.now) result ≡ Some (without_marks bytes.now) }
+{
+    ReaderBuilder::new()
+        .has_headers(false)
+        .flexible(true)
+        .from_reader(alloc, skip_marks(bytes))
 }

@@ -1,13 +1,21 @@
-use Rattle.std.proofs.Common.{◌≡◌, ◌≤◌, [], take, drop}
+use Rattle.std.proofs.Common.{◌≡◌, ◌≤◌, ◌-◌, [], take, drop}
 use Rattle.std.specs.List.{list_any}
 use Rattle.plan_text.specs.Kinds.{is_version_two}
 use Rattle.plan_text.specs.Reading.{records_after}
+use Rattle.plan_text.specs.Rows.{rows_of}
+use Rattle.plan_text.specs.declared.TheConstants.{MOST_RECORDS}
 use Rattle.plan_text.proofs.Front.{with_front}
+use Rattle.plan_text.proofs.RowsLeft.{GivesRows}
 use Rattle.plan_text.proofs.record_list.read_rows.Given as goal
 
-abbrev pub invariant-loop-place : goal.invariant-loop-place
-invariant-loop-place l = record {
-  few : l.place ≤ 50000;
-  groups : l.groups ≡ list_any is_version_two (take l.place l.rows);
-  read : with_front l.found.items (records_after (take l.place l.rows) (drop l.place l.rows)) ≡ records_after [] l.rows;
+abbrev pub invariant-rows : goal.invariant-rows
+invariant-rows l = record {
+  few : l.number ≤ MOST_RECORDS;
+  left : GivesRows l.reader (drop l.number (rows_of l.bytes));
+  groups : l.groups ≡ list_any is_version_two (take l.number (rows_of l.bytes));
+  read : with_front l.found.items (records_after (take l.number (rows_of l.bytes)) (drop l.number (rows_of l.bytes)))
+      ≡ records_after [] (rows_of l.bytes);
 }
+
+abbrev pub decreases-rows : goal.decreases-rows
+decreases-rows l = MOST_RECORDS - l.number

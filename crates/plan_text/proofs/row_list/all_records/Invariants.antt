@@ -1,12 +1,13 @@
 use Rattle.std.proofs.Common.{◌≡◌, ◌<◌, ℕ, List, Some, map}
-use Rattle.csv.specs.Reading.{Reached, Ready, default_config, source_of, strip_bom}
+use Rattle.csv.specs.Reading.{Reached, Ready, default_config, source_of}
 use Rattle.csv.specs.Records.{fields_of}
 use Rattle.csv.specs.declared.parser.State.TheVariants as st
 use Rattle.csv.specs.declared.reader.Trim.TheVariants as trim
+use Rattle.plan_text.specs.Rows.{without_marks}
 use Rattle.plan_text.proofs.row_list.all_records.Given as goal
 
 abbrev pub invariant-loop-read : goal.invariant-loop-read
 invariant-loop-read l = (l.read-iterator.rdr.trim ≡ trim.None) × Ready l.read-iterator.rdr × (0 < l.read-iterator.left)
     × (l.read-iterator.rdr.config ≡ default_config)
     × (y : List ℕ) × (source_of (λ s. Some s.now) l.read-iterator.rdr ≡ Some y)
-    × Reached default_config st.StartRecord (strip_bom l.fn.text) (map fields_of l.found.items) l.read-iterator.rdr.state y
+    × Reached default_config st.StartRecord (without_marks l.fn.bytes) (map fields_of l.found.items) l.read-iterator.rdr.state y
