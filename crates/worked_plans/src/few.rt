@@ -1,92 +1,68 @@
 //! Plans of one to three units.
 
-/// One unit serves two calls while one comes: a third of them is lost.
-pub const HALF_LOAD: &str = "\
-unit,A,2
+/// A unit that serves so many calls while so many come. They are lost if it is busy, unless a last record says that they
+/// wait.
+macro_rules! one_unit {
+    ($service:literal, $calls:literal $(, $last:literal)?) => {
+        concat!(
+            "unit,A,",
+            $service,
+            "\natom,P,",
+            $calls,
+            ",0,0,A\ntravel,P,P,300\nat,A,P,1000\nprefer,P,A\n"
+            $(, $last)?
+        )
+    };
+}
+
+/// Two like units, each at its own atom, and so many calls from the second; before them what version the text has, and
+/// after them its lists.
+macro_rules! two_units {
+    ($version:literal, $calls:literal, $lists:literal) => {
+        concat!(
+            $version,
+            "\
+unit,A,3
+unit,B,3
 atom,P,1,0,0,A
-travel,P,P,300
+atom,Q,",
+            $calls,
+            ",9,0,B
+travel,P,P,60
+travel,P,Q,300
+travel,Q,P,300
+travel,Q,Q,60
 at,A,P,1000
-prefer,P,A
-";
+at,B,Q,1000
+",
+            $lists
+        )
+    };
+}
+
+/// One unit serves two calls while one comes: a third of them is lost.
+pub const HALF_LOAD: &str = one_unit!(2, 1);
 
 /// A unit that serves three calls for each that comes. 2^52 is not divisible by 3, so the weights are rounded.
-pub const THIRD_LOAD: &str = "\
-unit,A,3
-atom,P,1,0,0,A
-travel,P,P,300
-at,A,P,1000
-prefer,P,A
-";
+pub const THIRD_LOAD: &str = one_unit!(3, 1);
 
 /// The same unit, if calls that find it busy wait.
-pub const THIRD_LOAD_WITH_A_QUEUE: &str = "\
-unit,A,3
-atom,P,1,0,0,A
-travel,P,P,300
-at,A,P,1000
-prefer,P,A
-line,infinite
-";
+pub const THIRD_LOAD_WITH_A_QUEUE: &str = one_unit!(3, 1, "line,infinite\n");
 
 /// Of 100,000 calls for each 199,999 services, 100,000 of 299,999 are lost.
-pub const LITTLE_MORE: &str = "\
-unit,A,199999
-atom,P,100000,0,0,A
-travel,P,P,300
-at,A,P,1000
-prefer,P,A
-";
+pub const LITTLE_MORE: &str = one_unit!(199999, 100000);
 
 /// A unit that serves one call while ten come.
-pub const TEN_LOADS: &str = "\
-unit,A,1
-atom,P,10,0,0,A
-travel,P,P,300
-at,A,P,1000
-prefer,P,A
-";
+pub const TEN_LOADS: &str = one_unit!(1, 10);
 
 /// Calls that wait for a unit which serves a million while 999,999 come.
-pub const ALL_BUT_FULL: &str = "\
-unit,A,1000000
-atom,P,999999,0,0,A
-travel,P,P,300
-at,A,P,1000
-prefer,P,A
-line,infinite
-";
+pub const ALL_BUT_FULL: &str = one_unit!(1000000, 999999, "line,infinite\n");
 
 /// Two units with opposite lists: 2 calls of 17 are lost.
-pub const TWO_UNITS: &str = "\
-unit,A,3
-unit,B,3
-atom,P,1,0,0,A
-atom,Q,1,9,0,B
-travel,P,P,60
-travel,P,Q,300
-travel,Q,P,300
-travel,Q,Q,60
-at,A,P,1000
-at,B,Q,1000
-prefer,P,A,B
-prefer,Q,B,A
-";
+pub const TWO_UNITS: &str = two_units!("", 1, "prefer,P,A,B\nprefer,Q,B,A\n");
 
 /// The same units, if no calls come from the atom of the second.
-pub const WITHOUT_CALLS: &str = "\
-unit,A,3
-unit,B,3
-atom,P,1,0,0,A
-atom,Q,0,9,0,B
-travel,P,P,60
-travel,P,Q,300
-travel,Q,P,300
-travel,Q,Q,60
-at,A,P,1000
-at,B,Q,1000
-prefer,P,A,B
-prefer,Q,B,A
-";
+pub const WITHOUT_CALLS: &str = two_units!("", 0, "prefer,P,A,B\nprefer,Q,B,A\n");
 
 /// Two units at one atom, the first of which is sent first.
 pub const ONE_LIST: &str = "\
@@ -100,21 +76,7 @@ prefer,P,A,B
 ";
 
 /// Two like units, of which chance sends one to each call.
-pub const ONE_GROUP: &str = "\
-version,2
-unit,A,3
-unit,B,3
-atom,P,1,0,0,A
-atom,Q,1,9,0,B
-travel,P,P,60
-travel,P,Q,300
-travel,Q,P,300
-travel,Q,Q,60
-at,A,P,1000
-at,B,Q,1000
-group,P,A,B
-group,Q,A,B
-";
+pub const ONE_GROUP: &str = two_units!("version,2\n", 1, "group,P,A,B\ngroup,Q,A,B\n");
 
 /// Three units, so seldom busy that the third is next to never sent.
 pub const THREE_UNITS: &str = "\

@@ -4,10 +4,12 @@
 mod few;
 mod grids;
 mod many;
+mod wide;
 
 pub use few::{
     ALL_BUT_FULL, BETWEEN, BOTH_AT_ONE, HALF_LOAD, LITTLE_MORE, ONE_GROUP, ONE_LIST, TEN_LOADS,
     THIRD_LOAD, THIRD_LOAD_WITH_A_QUEUE, THREE_UNITS, THREE_UNLIKE, TWO_UNITS, WITHOUT_CALLS,
 };
-pub use grids::{grid, widest};
+pub use grids::grid;
 pub use many::{ELEVEN_UNITS, SEVEN_OVERLOADED, SEVEN_SWAMPED, SIX_IN_GROUPS, SIX_WITH_A_QUEUE};
+pub use wide::widest;
