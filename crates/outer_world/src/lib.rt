@@ -6,6 +6,7 @@ mod file_shelf;
 mod memory_shelf;
 mod memory_sink;
 mod named_text;
+mod open_bytes;
 mod planned_faults;
 mod read;
 mod shelf;

@@ -1,19 +1,12 @@
-ghost use Rattle.std.specs.Prelude.{◌≡◌, ◌<◌, ◌≤◌, ◌++◌, None, Some, false, min, length, take};
+ghost use Rattle.std.specs.Prelude.{◌≡◌, ◌<◌, ◌≤◌, None, Some, false};
 ghost use Rattle.std.specs.Option.{option_map};
-ghost use Rattle.outer_world.specs.Shelf.{text_named};
 
 use crate::named_text::NamedText;
+use crate::open_bytes::OpenBytes;
 use crate::planned_faults::PlannedFaults;
 use crate::shelf::{Opening, Reading, Shelf};
 use crate::short_name::ShortName;
 use std::alloc::Global;
-
-/// A text in memory that is open, and what is left of it.
-#[derive(Drop)]
-pub(crate) struct OpenBytes<'a> {
-    pub name: ShortName,
-    pub rest: &'a [u8],
-}
 
 /// Texts in memory, some of whose calls fail on purpose.
 ///
@@ -75,13 +68,11 @@ impl<'a> Shelf for MemoryShelf<'a> {
             self.last_fault = Some(ShortName::of(name));
             return Opening::Failed;
         }
-        match find_text(self.texts, name) {
-            Some(rest) => {
-                let name = ShortName::of(name);
-                self.opened = Some(OpenBytes { name, rest });
-                Opening::Opened
-            }
-            None => Opening::Absent,
+        self.opened = OpenBytes::of(self.texts, name);
+        if self.opened.is_some() {
+            Opening::Opened
+        } else {
+            Opening::Absent
         }
     }
 
@@ -93,39 +84,8 @@ impl<'a> Shelf for MemoryShelf<'a> {
             self.last_fault = Some(opened.name);
             return Reading::Failed;
         }
-        let count = give(&mut opened.rest, self.step, piece);
+        let reading = opened.read(self.step, piece);
         self.opened = Some(opened);
-        if count == 0 {
-            Reading::End
-        } else {
-            Reading::Got(count)
-        }
+        reading
     }
-}
-
-/// The bytes of the first text of this name.
-pub(crate) fn find_text<'a>(texts: &'a [NamedText], name: &str) -> Option<&'a [u8]>
-    ensures { option_map (λ bytes. bytes.now) result ≡ text_named texts.now name.now }
-{
-    for text in texts {
-        if text.name.text() == name {
-            return Some(text.bytes.as_slice());
-        }
-    }
-    None
-}
-
-/// Moves bytes from the front of the rest to the front of the piece: `step` of them, or as many as
-/// there are and have room.
-pub(crate) fn give(rest: &mut &[u8], step: usize, piece: &mut [u8]) -> usize
-    requires step { 0 < step }
-    requires room { 0 < length piece.old }
-    ensures count { result ≡ min (min step (length piece.old)) (length rest.old.now) }
-    ensures bytes { rest.old.now ≡ take result piece.new ++ rest.new.now }
-{
-    let count = step.min(piece.len()).min(rest.len());
-    let (front, back) = rest.split_at(count);
-    piece[..count].copy_from_slice(front);
-    *rest = back;
-    count
 }

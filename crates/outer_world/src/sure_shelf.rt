@@ -1,10 +1,9 @@
 ghost use Rattle.std.specs.Prelude.{◌≡◌, ◌<◌, ◌≤◌, None, Some, false};
 ghost use Rattle.std.specs.Option.{option_map};
 
-use crate::memory_shelf::{OpenBytes, find_text, give};
 use crate::named_text::NamedText;
+use crate::open_bytes::OpenBytes;
 use crate::shelf::{Opening, Reading, Shelf};
-use crate::short_name::ShortName;
 use std::alloc::Global;
 
 /// Texts in memory, of which no call fails.
@@ -50,27 +49,18 @@ impl<'a> Shelf for SureShelf<'a> {
     ghost takes_memory = { false };
 
     fn open(&mut self, _alloc: Global, name: &str) -> Opening {
-        self.opened = None;
-        match find_text(self.texts, name) {
-            Some(rest) => {
-                let name = ShortName::of(name);
-                self.opened = Some(OpenBytes { name, rest });
-                Opening::Opened
-            }
-            None => Opening::Absent,
+        self.opened = OpenBytes::of(self.texts, name);
+        if self.opened.is_some() {
+            Opening::Opened
+        } else {
+            Opening::Absent
         }
     }
 
     fn read(&mut self, piece: &mut [u8]) -> Reading {
-        let Some(mut opened) = self.opened.take() else {
-            return Reading::End
-        };
-        let count = give(&mut opened.rest, self.step, piece);
-        self.opened = Some(opened);
-        if count == 0 {
-            Reading::End
-        } else {
-            Reading::Got(count)
+        match &mut self.opened {
+            Some(opened) => opened.read(self.step, piece),
+            None => Reading::End,
         }
     }
 }
