@@ -10,6 +10,7 @@
 #![tactic(auto)]
 
 mod iv;
+mod sharing;
 mod weights;
 mod wide;
 
