@@ -7,7 +7,6 @@ use Rattle.hyper_model.specs.Sums.{sum_below}
 use Rattle.hyper_model.proofs.Sums.{sum-le, sum-scaled}
 use Rattle.hyper_model.specs.Plans.{atoms, located, travel, IsAccepted}
 use Rattle.hyper_model.specs.Measures.{mean_travel}
-use Rattle.hyper_model.specs.TravelTimes.{mean_travel_in}
 
 -- a weighed sum of terms that are at most m is at most m times the sum of the weights
 pub weighed_le : (n : ℕ) (weight term : ℕ → ℕ) (m : ℕ) → ((k : ℕ) → k < n → term k ≤ m)

@@ -3,37 +3,37 @@ use crate::{
     Units,
 };
 
-fn shared<T: Send + Sync>(_value: &T) {}
+fn take_shared<T: Send + Sync>(_value: &T) {}
 
 /// Plans, their parts and what is found of them can go from one thread to another, and be read by several.
 fn shows_shared_plan(plan: &Plan, parts: &PlanParts, found: &Enclosures) {
-    shared(plan);
-    shared(parts);
-    shared(found);
+    take_shared(plan);
+    take_shared(parts);
+    take_shared(found);
 }
 
 /// So can a name, and a list of names.
 fn shows_shared_names(name: &Name, names: &Names) {
-    shared(name);
-    shared(names);
+    take_shared(name);
+    take_shared(names);
 }
 
 /// So can each part of a plan.
 fn shows_shared_parts(unit: &Unit, units: &Units, atom: &Atom, atoms: &Atoms) {
-    shared(unit);
-    shared(units);
-    shared(atom);
-    shared(atoms);
+    take_shared(unit);
+    take_shared(units);
+    take_shared(atom);
+    take_shared(atoms);
 }
 
 /// So can its tables and lists.
 fn shows_shared_tables(table: &Table, lists: &Lists) {
-    shared(table);
-    shared(lists);
+    take_shared(table);
+    take_shared(lists);
 }
 
 /// So can a measure with its ends.
 fn shows_shared_measure(measure: &Measure, enclosed: &Enclosed) {
-    shared(measure);
-    shared(enclosed);
+    take_shared(measure);
+    take_shared(enclosed);
 }
