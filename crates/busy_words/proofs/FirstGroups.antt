@@ -12,6 +12,7 @@ use Rattle.std.proofs.lemmas.Nat.Bits.{bit_at_or, bit_at-pow_same, bit_at-pow_ot
 use Rattle.std.proofs.Math.ListN.{drop_of_length-le, get_or-eq_default}
 use Rattle.hyper_model.specs.Groups.{GroupLists, put_before, groups_from, groups_in, row_of, no_row, list_of, member_at, begins_at, IsGrouped, IsRegular}
 use Rattle.hyper_model.specs.Words.{is_busy, is_free, has_free, is_taker, first_free_of, full_word, takes, taker_count}
+use Rattle.hyper_model.specs.declared.TheConstants.{MOST_UNITS}
 use Rattle.hyper_model.specs.declared.parts.PlanParts.{PlanParts}
 use Rattle.hyper_model.specs.Plans.{units, atoms, groups_of, IsAccepted}
 use Rattle.hyper_model.specs.Laws.{level}
@@ -24,18 +25,18 @@ use Rattle.hyper_model.proofs.PlanLaws.{full_below}
 abbrev stands_in : ℕ → List ℕ → Bool
 stands_in n group = list_any (λ m. m == n) group
 
--- unit n is a free one of the first of these groups, where no new group begins with them
+-- unit n is a free one of the first of these groups, if no new group begins with them
 abbrev pub continues : Bool → List (List ℕ) → ℕ → ℕ → Bool
 continues begin [] w n = false
 continues begin (group ∷ groups) w n = not begin && (stands_in n group && is_free w n)
 
--- Unit n takes the call, where the places before these groups are done: `some` tells whether a free unit was
+-- Unit n takes the call, if the places before these groups are done: `some` tells whether a free unit was
 -- found there, `taken` whether n was one, and `begin` whether a group begins at the next place.
 abbrev pub carried : Bool → Bool → Bool → List (List ℕ) → ℕ → ℕ → Bool
 carried true taken begin groups w n = taken || continues begin groups w n
 carried false taken begin groups w n = is_taker groups w n
 
--- one more unit before a group, by tests alone
+-- one more unit before a group, by tests only
 busy_joins : (e s v : Bool) → (e && v) ≡ false → ((e || s) && v) ≡ (s && v)
 busy_joins true s true h = absurd (true≢false h)
 busy_joins true true false h = refl
@@ -112,7 +113,7 @@ free_place false taken begin false u (group ∷ groups) w n go none free =
     ∙ free_joins (u == n) (stands_in n group) (is_free w n) (free_with w u n free)
     ∙ ap (λ c. (c || (u == n)) || (stands_in n group && is_free w n)) (sym (none refl))
 
--- where a new group begins after a free unit, the search ends
+-- if a new group begins after a free unit, the search ends
 pub new_group : (taken : Bool) (groups : List (List ℕ)) (w n : ℕ) → carried true taken true groups w n ≡ taken
 new_group true groups w n = refl
 new_group false [] w n = refl
@@ -172,7 +173,7 @@ pub unit_below : (n : ℕ) (units : List ℕ) (begins : List Bool) → IsGrouped
 unit_below n units begins h place l =
     All-get_or (λ u. u < n) units place 0 l (from_grouped n units begins h).within
 
--- where some unit is free, somebody takes the call, and where none is, nobody
+-- if some unit is free, somebody takes the call, and if none is, nobody
 pub takers_none_full : (n : ℕ) (groups : List (List ℕ)) (w set : ℕ) → IsGrouped n groups → w < 2 ^ n → set < 2 ^ n
     → ((m : ℕ) → is_busy set m ≡ is_taker groups w m) → (set ≡ 0) ↔ (w ≡ 2 ^ n - 1)
 takers_none_full n groups w set g below small told = (
@@ -362,6 +363,13 @@ pub member_below : (lists : GroupLists) → IsRegular lists → (atom place : �
 member_below lists regular atom place l m grouped =
     unit_below lists.units (list_of lists atom) _ grouped place (list_reaches lists regular atom place l m)
 
+-- the unit that is read at a place is a bit of a word
+pub member_small : (lists : GroupLists) → IsRegular lists → (atom place unit : ℕ) → atom < length lists.rows
+    → place < lists.units → IsGrouped lists.units (groups_in lists atom) → lists.units ≤ MOST_UNITS
+    → unit ≡ member_at lists atom place → unit < 16
+member_small lists regular atom place unit l m grouped most is =
+    omega (arith, is, most, member_below lists regular atom place l m grouped)
+
 pub lists_grouped : (p : PlanParts) → IsAccepted p → (lists : GroupLists) → lists ≡ p.lists → (atom : ℕ) → atom < atoms p
     → IsGrouped lists.units (groups_in lists atom)
 lists_grouped p a lists e atom l =
@@ -387,7 +395,7 @@ some_taker p a atom word l below =
     let free = free_exists (units p) word (omega (arith, below, full_below p)) low in
     takers_positive p a atom word free.0 l free.1 free.2
 
--- and so where one is known
+-- and so if one is known
 pub taker_counts : (p : PlanParts) (atom word n : ℕ) → n < units p → takes p atom word n ≡ true
     → 0 < taker_count p atom word
 taker_counts p atom word n l t =

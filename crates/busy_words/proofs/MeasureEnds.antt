@@ -1,5 +1,5 @@
 -- The ends of a measure contain it if they enclose it at its scale.
-use Rattle.std.proofs.Common.{◌≡◌, ℕ, ◌*◌, ◌≤◌}
+use Rattle.std.proofs.Common.{◌≡◌, ℕ, ◌*◌}
 use Rattle.fixed_interval.specs.Ends.{Ends, Encloses}
 use Rattle.hyper_model.specs.Measures.{Ratio, ContainsRatio}
 

@@ -2,19 +2,14 @@ use Rattle.std.proofs.Common.{◌≡◌, ◌-◌, ◌^◌, drop, not, sym, ap, �
 use Rattle.std.specs.Prelude.{◌↔◌, Some, None}
 use Rattle.hyper_model.specs.Groups.{list_of, row_of}
 use Rattle.hyper_model.specs.Words.{is_busy, first_free}
-use Rattle.busy_words.proofs.FirstGroups.{first_none_full, found_here, found_none, found_later, list_reaches, list_ends, member_below}
+use Rattle.busy_words.proofs.FirstGroups.{first_none_full, found_here, found_none, found_later, list_reaches, list_ends, member_small}
 use Rattle.busy_words.proofs.dispatch.first_free.Goals as goal
 
 pub is_busy-requires : goal.is_busy-requires
 is_busy-requires c =
-    omega (
-      arith,
-      c.unit-unit.ensures,
-      c.units-place-end.ensures.most,
-      c.units-place-end.ensures.units,
-      member_below c.args.lists.now c.units-place-end.ensures.regular c.args.atom c.loop-place.place c.requires.atom
-          (omega arith) c.requires.grouped,
-    )
+    member_small c.args.lists.now c.units-place-end.ensures.regular c.args.atom c.loop-place.place c.unit-unit.result
+    c.requires.atom (omega arith) c.requires.grouped (omega (arith, c.units-place-end.ensures.most, c.units-place-end.ensures.units))
+    c.unit-unit.ensures
 
 pub returns-then-not-is_busy : goal.returns-then-not-is_busy
 returns-then-not-is_busy c =

@@ -3,31 +3,21 @@ use Rattle.std.proofs.lemmas.Nat.{or_lt}
 use Rattle.std.proofs.Math.Pow.{pow-lt}
 use Rattle.std.specs.Int.Bits.{bit_or}
 use Rattle.hyper_model.specs.Groups.{list_of, begins_at, groups_in}
-use Rattle.busy_words.proofs.FirstGroups.{search_busy, search_free, search_stops, search_ends, takers_none_full, list_reaches, list_ends, member_below}
+use Rattle.busy_words.proofs.FirstGroups.{search_busy, search_free, search_stops, search_ends, takers_none_full, list_reaches, list_ends, member_below, member_small}
 use Rattle.busy_words.proofs.dispatch.takers.Goals as goal
 use Rattle.busy_words.proofs.dispatch.takers.Goals.{else-takers-ne0-via-then-takers-ne0+else-begins, else-takers-ne0-via-else-takers-ne0, then-not-is_busy, else-not-is_busy}
 
 pub is_busy-requires : goal.is_busy-requires
 is_busy-requires c =
-    omega (
-      arith,
-      c.unit-member.ensures,
-      c.units-place-end.ensures.most,
-      c.units-place-end.ensures.units,
-      member_below c.args.lists.now c.units-place-end.ensures.regular c.args.atom c.loop-place.place c.requires.atom
-          (omega arith) c.requires.grouped,
-    )
+    member_small c.args.lists.now c.units-place-end.ensures.regular c.args.atom c.loop-place.place c.unit-member.result
+    c.requires.atom (omega arith) c.requires.grouped (omega (arith, c.units-place-end.ensures.most, c.units-place-end.ensures.units))
+    c.unit-member.ensures
 
 pub overflow_shl-takers : goal.overflow_shl-takers
 overflow_shl-takers c =
-    omega (
-      arith,
-      c.unit-member.ensures,
-      c.units-place-end.ensures.most,
-      c.units-place-end.ensures.units,
-      member_below c.args.lists.now c.units-place-end.ensures.regular c.args.atom c.loop-place.place c.requires.atom
-          (omega arith) c.requires.grouped,
-    )
+    member_small c.args.lists.now c.units-place-end.ensures.regular c.args.atom c.loop-place.place c.unit-member.result
+    c.requires.atom (omega arith) c.requires.grouped (omega (arith, c.units-place-end.ensures.most, c.units-place-end.ensures.units))
+    c.unit-member.ensures
 
 pub returns-then-begins-clause-takers : goal.returns-then-begins-clause-takers
 returns-then-begins-clause-takers c =
@@ -39,7 +29,7 @@ returns-then-begins-clause-full c =
     takers_none_full c.args.lists.now.units (groups_in c.args.lists.now c.args.atom) c.args.word c.loop-place.takers
     c.requires.grouped c.requires.word c.loop-place.invariant.below (returns-then-begins-clause-takers c)
 
--- where a free unit was found, the place does not begin a group
+-- if a free unit was found, the place does not begin a group
 goes_on : (takers : ℕ) (begin : Bool) → (takers ≡ 0) ⊎ (begin ≡ false) → not (eqb takers 0) ≡ true → begin ≡ false
 goes_on takers begin h some = elim h [
   | inl none ↦ absurd (true≢false (sym some ∙ ap not (eq-eqb takers 0 none)))
