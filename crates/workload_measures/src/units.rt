@@ -7,7 +7,7 @@ ghost use Rattle.workload_measures.specs.LoadEnds.{workload_of, workloads_of};
 use crate::rounding::share;
 use busy_words::{Order, busy_part};
 use fixed_interval::Weights;
-use hyper_model::{Enclosed, Measure, Plan};
+use hyper_model::{Enclosed, Measure, Plan, push_each};
 use std::alloc::{AllocError, Global};
 
 /// The share of time that each unit is busy, in millionths, in the order of the units.
@@ -23,9 +23,9 @@ pub fn workloads(
     ensures ordered { IfOk result (λ found. All IsOrderedEnclosed found.items) }
 {
     let mut found = Vec::new(alloc);
-    for unit in 0..plan.units() {
-        found.push(workload(plan, order, weights, unit as u8))?;
-    }
+    push_each(&mut found, plan.units(), |unit| {
+        workload(plan, order, weights, unit as u8)
+    })?;
     Ok(found)
 }
 
