@@ -1,5 +1,4 @@
-ghost use Rattle.std.specs.Prelude.{◌≡◌, ◌++◌, ◌*◌, ◌^◌, ◌<◌, ◌≤◌, All, IfOk, map};
-ghost use Rattle.std.specs.List.{range_with_len};
+ghost use Rattle.std.specs.Prelude.{◌≡◌, ◌*◌, ◌^◌, ◌<◌, ◌≤◌, All, IfOk};
 ghost use Rattle.hyper_model.specs.declared.TheConstants.{MOST_UNITS, MOST_ATOMS, MOST_RATE};
 ghost use Rattle.hyper_model.specs.Plans.{units};
 ghost use Rattle.hyper_model.specs.Enclosures.{IsOrderedEnclosed, IsOrderedFound};
@@ -10,7 +9,7 @@ use crate::Parts;
 use crate::districts::calls_inside;
 use crate::flows::{flow_by_others, flow_in_region, flow_to_side, found_of};
 use fixed_interval::Wide;
-use hyper_model::{Enclosed, Found, Measure, Plan};
+use hyper_model::{Enclosed, Found, Measure, Plan, push_each};
 use std::alloc::{AllocError, Global};
 
 /// The shares of dispatches that lead from one district into another, in millionths: of all dispatches, of those
@@ -24,35 +23,13 @@ pub fn interdistrict(alloc: Global, plan: &Plan, parts: &Parts) -> Result<Vec<En
 {
     let mut found = Vec::new(alloc);
     found.push(region_share(plan, parts))?;
-    push_units(&mut found, plan, parts)?;
-    push_districts(&mut found, plan, parts)?;
+    push_each(&mut found, plan.units(), |unit| {
+        unit_share(plan, parts, unit as u8)
+    })?;
+    push_each(&mut found, plan.units(), |unit| {
+        district_share(plan, parts, unit as u8)
+    })?;
     Ok(found)
-}
-
-fn push_units(found: &mut Vec<Enclosed>, plan: &Plan, parts: &Parts) -> Result<(), AllocError>
-    requires sized { AreSizedFor plan.now parts.now }
-    requires ordered { All IsOrderedEnclosed found.old.items }
-    ensures exact { IfOk result (λ _. found.new.items
-        ≡ found.old.items ++ map (unit_share plan.now parts.now) (range_with_len 0 (units plan.now))) }
-    ensures ordered { IfOk result (λ _. All IsOrderedEnclosed found.new.items) }
-{
-    for unit in 0..plan.units() {
-        found.push(unit_share(plan, parts, unit as u8))?;
-    }
-    Ok(())
-}
-
-fn push_districts(found: &mut Vec<Enclosed>, plan: &Plan, parts: &Parts) -> Result<(), AllocError>
-    requires sized { AreSizedFor plan.now parts.now }
-    requires ordered { All IsOrderedEnclosed found.old.items }
-    ensures exact { IfOk result (λ _. found.new.items
-        ≡ found.old.items ++ map (district_share plan.now parts.now) (range_with_len 0 (units plan.now))) }
-    ensures ordered { IfOk result (λ _. All IsOrderedEnclosed found.new.items) }
-{
-    for unit in 0..plan.units() {
-        found.push(district_share(plan, parts, unit as u8))?;
-    }
-    Ok(())
 }
 
 fn region_share(plan: &Plan, parts: &Parts) -> Enclosed

@@ -7,7 +7,7 @@ ghost use Rattle.dispatch_fractions.specs.Fractions.{fraction_of, fractions_of, 
 use crate::Parts;
 use crate::flows::{dispatch_flow, found_of};
 use fixed_interval::Wide;
-use hyper_model::{Enclosed, Measure, Plan};
+use hyper_model::{Enclosed, Measure, Plan, push_each};
 use std::alloc::{AllocError, Global};
 
 /// The share of all answered calls that each unit answers at each atom, in millionths: unit by unit, and per unit
@@ -39,10 +39,9 @@ fn push_unit(
     ensures exact { IfOk result (λ _. found.new.items ≡ found.old.items ++ unit_fractions plan.now parts.now unit) }
     ensures ordered { IfOk result (λ _. All IsOrderedEnclosed found.new.items) }
 {
-    for atom in 0..plan.atoms() {
-        found.push(fraction(plan, parts, unit, atom))?;
-    }
-    Ok(())
+    push_each(found, plan.atoms(), |atom| {
+        fraction(plan, parts, unit, atom)
+    })
 }
 
 fn fraction(plan: &Plan, parts: &Parts, unit: usize, atom: usize) -> Enclosed

@@ -1,8 +1,8 @@
 use crate::Parts;
 
-fn shared<T: Send + Sync>(_value: &T) {}
+fn take_shared<T: Send + Sync>(_value: &T) {}
 
 /// Parts can go from one thread to another, and be read by several.
 fn shows_shared_parts(parts: &Parts) {
-    shared(parts);
+    take_shared(parts);
 }
