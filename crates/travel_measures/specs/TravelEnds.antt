@@ -1,5 +1,5 @@
 -- The ends of mean travel times, made of parts. Means are in thousandths of a second.
-use Rattle.std.specs.Prelude.{◌≡◌, ℕ, zero, suc, ◌+◌, ◌*◌, ◌^◌, ◌==◌, max, Bool, true, if◌then◌else◌, Option, None, Some, List, ◌∷◌, ◌++◌, map}
+use Rattle.std.specs.Prelude.{ℕ, zero, suc, ◌*◌, ◌^◌, ◌==◌, max, Bool, true, if◌then◌else◌, Option, None, Some, List, ◌∷◌, ◌++◌, map}
 use Rattle.std.specs.List.{range_with_len}
 use Rattle.fixed_interval.specs.Ends.{Ends, exact_ends, plus_ends, product_ends, scaled_ends, ratio_ends, quotient_ends}
 use Rattle.hyper_model.specs.declared.kinds.Measure.TheVariants as measure

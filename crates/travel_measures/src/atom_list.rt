@@ -9,7 +9,7 @@ use crate::table_sums::{longest_mean, travel_from_calls};
 use crate::trips::trips_to;
 use dispatch_fractions::{Parts, found_of};
 use fixed_interval::Wide;
-use hyper_model::{Enclosed, Found, Measure, Plan, law_accepted};
+use hyper_model::{Enclosed, Found, Measure, Plan, law_accepted, push_each};
 use std::alloc::{AllocError, Global};
 
 /// The mean travel time to a call of each atom, in thousandths of a second.
@@ -21,9 +21,9 @@ pub fn atom_times(alloc: Global, plan: &Plan, parts: &Parts) -> Result<Vec<Enclo
     law_accepted(plan);
     let calls = plan.calls();
     let mut found = Vec::new(alloc);
-    for atom in 0..plan.atoms() {
-        found.push(atom_time(plan, parts, calls, atom as u16))?;
-    }
+    push_each(&mut found, plan.atoms(), |atom| {
+        atom_time(plan, parts, calls, atom as u16)
+    })?;
     Ok(found)
 }
 

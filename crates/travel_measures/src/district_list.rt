@@ -6,7 +6,7 @@ ghost use Rattle.travel_measures.specs.TravelEnds.{district_time, district_times
 
 use crate::means::mean_time;
 use dispatch_fractions::{Parts, calls_inside};
-use hyper_model::{Enclosed, Found, Measure, Plan, law_accepted};
+use hyper_model::{Enclosed, Found, Measure, Plan, law_accepted, push_each};
 use std::alloc::{AllocError, Global};
 
 /// The mean travel time to a call of each unit's district, in thousandths of a second, whichever unit answers it.
@@ -24,9 +24,9 @@ pub fn district_times(
     law_accepted(plan);
     let calls = plan.calls();
     let mut found = Vec::new(alloc);
-    for unit in 0..plan.units() {
-        found.push(district_time(plan, parts, calls, unit as u8))?;
-    }
+    push_each(&mut found, plan.units(), |unit| {
+        district_time(plan, parts, calls, unit as u8)
+    })?;
     Ok(found)
 }
 

@@ -8,7 +8,7 @@ ghost use Rattle.travel_measures.specs.TravelEnds.{unit_ends, unit_time, unit_ti
 use crate::table_sums::{late_travel, longest_mean};
 use crate::trips::{product, taken_calls, unit_trips};
 use dispatch_fractions::{Parts, found_of};
-use hyper_model::{Enclosed, Found, Measure, Plan, law_accepted};
+use hyper_model::{Enclosed, Found, Measure, Plan, law_accepted, push_each};
 use std::alloc::{AllocError, Global};
 
 /// The mean travel time of each unit to the calls that it answers, in thousandths of a second.
@@ -20,9 +20,9 @@ pub fn unit_times(alloc: Global, plan: &Plan, parts: &Parts) -> Result<Vec<Enclo
     law_accepted(plan);
     let calls = plan.calls();
     let mut found = Vec::new(alloc);
-    for unit in 0..plan.units() {
-        found.push(unit_time(plan, parts, calls, unit as u8))?;
-    }
+    push_each(&mut found, plan.units(), |unit| {
+        unit_time(plan, parts, calls, unit as u8)
+    })?;
     Ok(found)
 }
 

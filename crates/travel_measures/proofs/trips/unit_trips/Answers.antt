@@ -1,4 +1,4 @@
-use Rattle.std.proofs.Common.{◌≡◌, ◌<◌, ◌≤◌, arith}
+use Rattle.std.proofs.Common.{◌<◌, ◌≤◌, arith}
 use Rattle.hyper_model.specs.Plans.{atoms}
 use Rattle.travel_measures.proofs.Sums.{calls_next, calls_so_far}
 use Rattle.travel_measures.proofs.trips.unit_trips.Goals as goal

@@ -1,20 +1,8 @@
-use Rattle.std.proofs.Common.{◌≡◌, map, ap, ◌∙◌, arith}
-use Rattle.std.specs.List.{range_with_len}
-use Rattle.hyper_model.specs.Plans.{units}
-use Rattle.hyper_model.specs.Enclosures.{IsOrderedEnclosed}
-use Rattle.hyper_model.proofs.Ranges.{list_more, all_pushed}
+use Rattle.std.proofs.Common.{rules}
 use Rattle.travel_measures.specs.TravelEnds.{unit_time}
 use Rattle.travel_measures.proofs.unit_list.unit_times.Goals as goal
 
-pub loop-unit-preserved : goal.loop-unit-preserved
-loop-unit-preserved c = record {
-  exact = list_more (unit_time c.args.plan.now c.args.parts.now) c.loop-unit.found.items c.push.new.self.items c.loop-unit.unit
-      c.unit_time.result c.loop-unit.invariant.exact c.unit_time.ensures.exact c.in_ok-push.ensures.items;
-  ordered = all_pushed IsOrderedEnclosed c.loop-unit.found.items c.push.new.self.items c.unit_time.result
-      c.loop-unit.invariant.ordered c.unit_time.ensures.ordered c.in_ok-push.ensures.items;
-}
-
 pub returns-clause-exact : goal.returns-clause-exact
 returns-clause-exact c =
-    let end : c.loop-unit.unit ≡ units c.args.plan.now = omega (arith, c.units-unit-end.ensures.units) in
-    c.loop-unit.invariant.exact ∙ ap (λ n. map (unit_time c.args.plan.now c.args.parts.now) (range_with_len 0 n)) end
+    let is = c.in_ok-push_each.ensures.exact (unit_time c.args.plan.now c.args.parts.now) (λ i e l h. search rules) in
+    rw (c.new-found.ensures.items, c.units.ensures.units) at is
