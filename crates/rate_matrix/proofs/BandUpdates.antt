@@ -1,5 +1,5 @@
 -- A band of the matrix before and after the elimination of a state.
-use Rattle.std.proofs.Common.{◌≡◌, ◌≢◌, ℕ, ◌+◌, ◌-◌, ◌*◌, ◌<◌, ◌≤◌, ◌⊎◌, true, false, min, List, length, take, drop, get_or, slice_index, refl, sym, ap, subst, ◌∙◌, inl, inr, true≢false, arith, rules}
+use Rattle.std.proofs.Common.{◌≡◌, ◌≢◌, ℕ, ◌+◌, ◌-◌, ◌*◌, ◌<◌, ◌≤◌, ◌⊎◌, true, false, min, List, length, take, drop, get_or, refl, sym, ap, subst, ◌∙◌, inl, inr, true≢false, arith, rules}
 use Rattle.std.specs.Prelude.{if◌then◌else◌}
 use Rattle.std.proofs.lemmas.Bool.{cases_lt, cases_eq}
 use Rattle.std.proofs.lemmas.List.{places}
@@ -152,11 +152,11 @@ module _ (step : OneElimination) (b : BandOfRows) (can : CanUpdate step b) where
                 λ ne. subst (λ x. x.lo ≤ x.hi) (sym here) (done.ordered i j hi kj ne),
               )
           | inr g ↦
-              let behind : rows * b.width ≤ (i - b.first) * b.width = mul-le-mul_right b.width (omega (arith, h.from)) in
+              let later : rows * b.width ≤ (i - b.first) * b.width = mul-le-mul_right b.width (omega (arith, h.from)) in
               let same : cell_of (record b { cells = new }) i j ≡ cell_of b i j =
-              dropped new (place_in b i j) (omega (arith, behind))
+              dropped new (place_in b i j) (omega (arith, later))
               ∙ ap (λ x. get_or x (place_in b i j - rows * b.width) (exact_ends 0)) rest
-              ∙ sym (dropped b.cells (place_in b i j) (omega (arith, behind))) in (
+              ∙ sym (dropped b.cells (place_in b i j) (omega (arith, later))) in (
                 same ∙ sym (band_entry_kept b i j k)
                     ∙ sym (raised_entries-stays (part_in step.parts) (band_entry b) (row_cap step) step.state i j (is_raised-from step.state i j (omega (arith, h.to)))),
                 λ ne. subst (λ x. x.lo ≤ x.hi) (sym same) (can.ordered i j h k ne),

@@ -110,7 +110,7 @@ module _ (levels : List ℕ) (rises : Rises levels) where
   unfolding level_band
   level_falls k m l = below_more levels rises (k - 1) (m - 1) (omega arith)
 
-  -- a column is kept where its level is beside that of the band
+  -- a column is kept if its level is beside that of the band
   pub level_kept : (k j : ℕ) → j < length levels
       → HasColumn (level_band levels k) j ↔ ((k ≤ slice_index levels j + 1) × (slice_index levels j ≤ k + 1))
   unfolding level_band

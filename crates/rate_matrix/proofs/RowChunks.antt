@@ -1,11 +1,10 @@
 -- Rows of a band in chunks of whole rows.
-use Rattle.std.proofs.Common.{◌≡◌, ◌≢◌, ℕ, ◌+◌, ◌-◌, ◌*◌, ◌/◌, ◌%◌, ◌<◌, ◌≤◌, min, List, length, get_or, slice_index, sym, ap, subst, ◌∙◌, inl, inr, arith}
+use Rattle.std.proofs.Common.{◌≡◌, ◌≢◌, ℕ, ◌+◌, ◌-◌, ◌*◌, ◌/◌, ◌%◌, ◌<◌, ◌≤◌, min, List, length, get_or, sym, ap, subst, ◌∙◌, inl, inr, arith}
 use Rattle.std.specs.Fork.{IsChunk}
 use Rattle.std.proofs.lemmas.Bool.{cases_lt}
 use Rattle.std.proofs.lemmas.Nat.{div-mul-add}
 use Rattle.std.proofs.Math.Nat.{mul-le-mul_right, mul-pos, le_of_mul-le-mul_right, lt_of_mul-lt-mul_right}
 use Rattle.fixed_interval.specs.Ends.{Ends, exact_ends}
-use Rattle.rate_matrix.specs.Elimination.{raised_entries}
 use Rattle.rate_matrix.specs.Bands.{BandOfRows, HasRow, HasColumn, place_in, cell_of}
 use Rattle.rate_matrix.specs.Rows.{OneElimination, entries_past, row_cap, AreAfter, CanEliminate, part_in, rows_from}
 use Rattle.rate_matrix.proofs.RowsOfBand.{raised_entries-alike}

@@ -19,7 +19,7 @@ sum_fewer a (suc b) f l = elim (cases_lt a (suc b)) [
   | inr k ↦ let e : a ≡ suc b = omega arith in subst (λ c. sum_below c f ≤ sum_below (suc b) f) (sym e) (omega arith)
 ]
 
--- where the rest are 0 it is the whole sum
+-- if the rest are 0 it is the whole sum
 pub sum_all : (a b : ℕ) (f : ℕ → ℕ) → a ≤ b → ((k : ℕ) → a ≤ k → k < b → f k ≡ 0) → sum_below a f ≡ sum_below b f
 sum_all a zero f l z = let e : a ≡ 0 = omega arith in ap (λ k. sum_below k f) e
 sum_all a (suc b) f l z = elim (cases_lt a (suc b)) [

@@ -1,5 +1,5 @@
 -- One row while a state is eliminated, cell by cell.
-use Rattle.std.proofs.Common.{◌≡◌, ◌≢◌, ℕ, ◌+◌, ◌-◌, ◌*◌, ◌/◌, ◌^◌, ◌<◌, ◌≤◌, true, cond, eqb, min, List, length, length-set, get_or, set, get_or-set_same, get_or-set_other, slice_index, refl, sym, ap, subst, ◌∙◌, inl, inr, arith}
+use Rattle.std.proofs.Common.{◌≡◌, ◌≢◌, ℕ, ◌+◌, ◌-◌, ◌*◌, ◌/◌, ◌^◌, ◌<◌, ◌≤◌, true, cond, eqb, min, List, length, length-set, get_or, set, get_or-set_same, get_or-set_other, refl, sym, ap, subst, ◌∙◌, inl, inr, arith}
 use Rattle.std.specs.Int.{div_ceil}
 use Rattle.std.proofs.lemmas.Bool.{cases_lt, cases_eq, ne_eqb}
 use Rattle.std.proofs.lemmas.List.{get_or_read}
@@ -10,7 +10,7 @@ use Rattle.rate_matrix.specs.Bands.{BandOfRows, place_in, cell_of}
 use Rattle.rate_matrix.specs.Rows.{OneElimination, entries_past, row_cap, AreAfter, CanEliminate, part_in, rows_from}
 use Rattle.rate_matrix.proofs.Raising.{is_raised-to, is_raised-itself, raised_entries-before, raised_entries-stays}
 
--- nothing is added where there is nothing to give, or no part of it goes there
+-- nothing is added if there is nothing to give, or no part of it goes there
 pub raised_entry-nothing : (old into part : Ends) (cap : ℕ) → old.lo ≤ old.hi → old.hi ≤ cap
     → times_part_ends into part ≡ exact_ends 0 → raised_entry old into part cap ≡ old
 raised_entry-nothing old into part cap ordered capped none =
@@ -43,7 +43,7 @@ no_part into part ordered none =
     let low : part.lo ≡ 0 = omega arith in
     rw (low, none, times_none into.lo, times_none_up into.hi) refl
 
--- the entry that a row has at column j after the elimination, where j is before the state
+-- the entry that a row has at column j after the elimination, if j is before the state
 abbrev pub new_entry : ℕ → ℕ → Ends → Ends → Ends → ℕ → Ends
 new_entry i j old into part cap = cond (eqb i j) old (raised_entry old into part cap)
 

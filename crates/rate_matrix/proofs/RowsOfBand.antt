@@ -1,5 +1,5 @@
 -- The rows of a part of a band, one after the other.
-use Rattle.std.proofs.Common.{◌≡◌, ◌≢◌, ℕ, ◌+◌, ◌-◌, ◌*◌, ◌/◌, ◌<◌, ◌≤◌, List, length, take, drop, get_or, refl, sym, ap, subst, ◌∙◌, inl, inr, slice_index, arith}
+use Rattle.std.proofs.Common.{◌≡◌, ◌≢◌, ℕ, ◌+◌, ◌-◌, ◌*◌, ◌/◌, ◌<◌, ◌≤◌, List, length, take, drop, get_or, refl, sym, ap, subst, ◌∙◌, inl, inr, arith}
 use Rattle.std.proofs.lemmas.Bool.{cases_lt, cases_eq}
 use Rattle.fixed_interval.specs.Ends.{Ends, exact_ends}
 use Rattle.std.specs.Prelude.{if◌then◌else◌}
@@ -141,8 +141,8 @@ module _ (step : OneElimination) (b : BandOfRows) (new row : List Ends) (r : ℕ
 
       cell_above : (i j : ℕ) → HasRow b i → HasColumn b j → b.first + r < i → cell_of (record b { cells = more }) i j ≡ cell_of (record b { cells = new }) i j
       cell_above i j h k l =
-          let behind : (r + 1) * b.width ≤ (i - b.first) * b.width = mul-le-mul_right b.width (omega arith) in
-          above (place_in b i j) (omega (arith, behind))
+          let later : (r + 1) * b.width ≤ (i - b.first) * b.width = mul-le-mul_right b.width (omega arith) in
+          above (place_in b i j) (omega (arith, later))
 
 -- the same for a row that is a slice of the cells
 module _ (step : OneElimination) (b : BandOfRows) (new : List Ends) (r : ℕ)

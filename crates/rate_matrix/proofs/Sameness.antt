@@ -2,7 +2,7 @@
 use Rattle.std.proofs.Common.{◌≡◌, ℕ, ◌*◌, ◌^◌, ◌<◌, sym, ap, ◌∙◌, inl, inr, arith}
 use Rattle.std.specs.Prelude.{◌==◌, not}
 use Rattle.std.proofs.lemmas.Bool.{cases_lt}
-use Rattle.fixed_interval.specs.Ends.{Ends, between, share_ends}
+use Rattle.fixed_interval.specs.Ends.{Ends, share_ends}
 use Rattle.hyper_model.proofs.Sums.{sum-same}
 use Rattle.rate_matrix.specs.Elimination.{AreSoundEntries, Entries, HoldsAll, HoldsAt, SameEntries, entries_after, part_to, raised_entry, without_ends}
 use Rattle.busy_words.specs.Algebra.{total_ends, where_ends}

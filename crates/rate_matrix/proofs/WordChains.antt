@@ -90,7 +90,7 @@ module _ (p : PlanParts) (order : WordOrder) (accepted : IsAccepted p) (h : IsIn
         (solves_alike (words p) (word_rates p order) (mass_in (by_rank order xs)) (λ i. mass_in xs (word_at order i)) (λ i l. sym (by_rank_at xs i l)) s.solves)),
   )
 
--- one unit alone changes from a word to another with a rate
+-- only one unit changes from a word to another with a rate
 pub far_words : (p : PlanParts) (v w : ℕ)
     → ((level (units p) v + 1 < level (units p) w) ⊎ (level (units p) w + 1 < level (units p) v)) → word_table p v w ≡ 0
 far_words p v w far = table_elsewhere p v w (λ n l e.

@@ -3,7 +3,6 @@
 use Rattle.std.proofs.Common.{◌≡◌, ℕ, zero, suc, ◌*◌, ◌<◌, List, [], ◌∷◌, slice_index, refl, arith}
 use Rattle.std.specs.Prelude.{slice_index_or}
 use Rattle.hyper_model.specs.Solutions.{mass_in}
-use Rattle.hyper_model.specs.Sums.{sum_below}
 use Rattle.hyper_model.specs.Tables.{Descends, IsBalancedState, IsTableSolution, RateTable}
 use Rattle.hyper_model.proofs.Chains.{are_proportional, is_first_positive}
 
