@@ -1,7 +1,7 @@
 -- One elimination of a table of whole rates, and of the intervals that enclose it. The table loses its last state
 -- and the scale of all its rates grows by one factor, so that no fraction arises. A row's sum over the scale stays
 -- as it is, which is why no cap cuts a rate off.
-use Rattle.std.proofs.Common.{◌≡◌, ◌≢◌, ℕ, suc, ◌+◌, ◌-◌, ◌*◌, ◌^◌, ◌<◌, ◌≤◌, cond, eqb, not, refl, ap, arith}
+use Rattle.std.proofs.Common.{◌≡◌, ◌≢◌, ℕ, suc, ◌+◌, ◌-◌, ◌*◌, ◌^◌, ◌<◌, ◌≤◌, cond, eqb, not, refl, arith}
 use Rattle.std.proofs.Math.Nat.{le_of_mul-le-mul_right, mul-le-mul_left, mul-le-mul_right, mul-pos}
 use Rattle.fixed_interval.specs.Ends.{Ends, Encloses, times_part_ends}
 use Rattle.fixed_interval.proofs.Rounding.{encloses_plus_capped, encloses_share, encloses_times, encloses_times_part}
@@ -67,7 +67,7 @@ encloses_raised m s e caps a lies i j row column apart =
       smaller_rows m s e caps i (lies.rows i (omega arith)),
     ))
 
--- what leaves the last state has a rate where the low ends of its entries are not all 0
+-- what leaves the last state has a rate if the low ends of its entries are not all 0
 pub leaves_some : (m s : ℕ) (e : RateTable) (caps : ℕ → ℕ) (a : Entries) → LiesIn (suc m) s e caps a
     → 0 < (total_ends m (a m)).lo → 0 < sum_below m (e m)
 leaves_some m s e caps a lies live =

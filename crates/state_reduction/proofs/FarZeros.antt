@@ -25,7 +25,7 @@ pub times_part-no_part : (into : Ends) → times_part_ends into (exact_ends 0) �
 times_part-no_part into =
     same_ends _ _ (floor_of_zero (into.lo * 0) (2 ^ 62) (omega arith)) (ceil_of_zero (into.hi * 0) (2 ^ 62) (omega arith))
 
--- nothing goes where no entry leads
+-- nothing goes to where no entry leads
 pub share-nothing : (unit : ℕ) (rest : Ends) → share_ends unit (exact_ends 0) rest ≡ exact_ends 0
 share-nothing unit rest =
     same_ends _ _ (floor_of_zero (unit * 0) (0 + rest.hi) (omega arith)) (ceil_of_zero (unit * 0) (0 + rest.lo) (omega arith))

@@ -1,5 +1,5 @@
 -- A matrix while its states are eliminated, state by state.
-use Rattle.std.proofs.Common.{◌≡◌, ℕ, suc, ◌+◌, ◌-◌, ◌*◌, ◌<◌, ◌≤◌, Bool, List, length, refl, sym, ap, subst, ◌∙◌, arith}
+use Rattle.std.proofs.Common.{◌≡◌, ℕ, suc, ◌-◌, ◌*◌, ◌<◌, ◌≤◌, Bool, List, length, refl, sym, ap, subst, ◌∙◌, arith}
 use Rattle.fixed_interval.specs.Ends.{Ends, exact_ends}
 use Rattle.hyper_model.specs.Solutions.{mass_in}
 use Rattle.hyper_model.specs.Tables.{Descends}
@@ -35,10 +35,9 @@ entries_after-alike size a b caps limits t inside same bounds i j row column =
 abbrev pub ArePartsOf : BandedRates → ℕ → List Ends → Type 0
 ArePartsOf m t parts = (k : ℕ) → k < t → part_in parts k ≡ part_to (entry m) t k
 
-pub parts-read : (m : BandedRates) (alive : ℕ) (filled parts : List Ends) → alive ≡ m.alive → parts ≡ filled
-    → ArePartsOf m (alive - 1) filled → ArePartsOf m (m.alive - 1) parts
-parts-read m alive filled parts same read are =
-    subst (ArePartsOf m (m.alive - 1)) (sym read) (subst (λ n. ArePartsOf m (n - 1) filled) same are)
+pub parts-read : (m : BandedRates) (filled parts : List Ends) → parts ≡ filled → ArePartsOf m (m.alive - 1) filled
+    → ArePartsOf m (m.alive - 1) parts
+parts-read m filled parts read are = subst (ArePartsOf m (m.alive - 1)) (sym read) are
 
 -- outside of what the matrix keeps nothing is passed on
 pub parts-outside : (m gone : BandedRates) (parts : List Ends) → gone ≡ record m { alive = m.alive - 1 }

@@ -6,7 +6,7 @@ use Rattle.hyper_model.proofs.Sums.{sum-le}
 use Rattle.rate_matrix.specs.Elimination.{Entries, IsLive, IsWithin, entries_after, part_to, raised_entry}
 use Rattle.rate_matrix.proofs.Raising.{entries_after-before, entries_after-from, entries_after-to, part_to-ordered, raised_entry-capped, raised_entry-grows, raised_entry-ordered}
 
--- what holds of an entry, where it stays and where it is raised
+-- what holds of an entry, if it stays and if it is raised
 pub at_entry : (P : Ends → Type 0) (entries : Entries) (caps : ℕ → ℕ) (t i j : ℕ) → i ≢ j → P (entries i j)
     → (i < t → j < t → P (raised_entry (entries i j) (entries i t) (part_to entries t j) (caps i)))
     → P (entries_after entries caps t i j)

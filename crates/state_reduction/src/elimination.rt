@@ -1,7 +1,7 @@
-ghost use Rattle.std.specs.Prelude.{◌≡◌, ◌≢◌, ℕ, ◌+◌, ◌^◌, ◌<◌, ◌≤◌, ◌==◌, false, true, length, if◌then◌else◌};
+ghost use Rattle.std.specs.Prelude.{◌≡◌, ◌≢◌, ℕ, ◌+◌, ◌-◌, ◌^◌, ◌<◌, ◌≤◌, ◌==◌, false, true, length, if◌then◌else◌};
 ghost use Rattle.fixed_interval.specs.Ends.{plus_capped_ends};
 ghost use Rattle.rate_matrix.specs.Bands.{HasSameFrame, cap, entry};
-ghost use Rattle.rate_matrix.specs.Elimination.{raised_entries};
+ghost use Rattle.rate_matrix.specs.Elimination.{part_to, raised_entries};
 ghost use Rattle.rate_matrix.specs.Rows.{part_in};
 ghost use Rattle.state_reduction.specs.Reductions.{LosesState, MayLoseState};
 
@@ -20,9 +20,7 @@ pub fn step(m: &mut RateMatrix, scratch: &mut Row)
     ensures state { LosesState m.old m.new }
     ensures row { length scratch.new ≡ length scratch.old }
 {
-    let state = m.alive() - 1;
-    fill_parts(m, state, scratch);
-    m.retire();
+    retire_last(m, scratch);
     raise_rows(m, scratch.as_slice());
 }
 
@@ -32,9 +30,7 @@ pub(crate) fn step_packed(m: &mut RateMatrix, scratch: &mut Row)
     ensures state { LosesState m.old m.new }
     ensures row { length scratch.new ≡ length scratch.old }
 {
-    let state = m.alive() - 1;
-    fill_parts(m, state, scratch);
-    m.retire();
+    retire_last(m, scratch);
     m.update_rows_alone(scratch.as_slice());
 }
 
@@ -53,10 +49,23 @@ pub(crate) fn step_by_workers<R: Threads + Sync, G: Gate + Sync>(
     ensures state { LosesState m.old m.new }
     ensures row { length scratch.new ≡ length scratch.old }
 {
+    retire_last(m, scratch);
+    m.update_rows(rt, scratch.as_slice(), workers, gate, place);
+}
+
+/// Counts the last state that is alive as eliminated, and puts into the row the parts of the way out of it.
+fn retire_last(m: &mut RateMatrix, scratch: &mut Row)
+    requires alive { 2 ≤ m.old.alive }
+    requires room { m.old.size ≤ length scratch.old }
+    ensures most { m.old.alive ≤ m.old.size }
+    ensures fewer { m.new ≡ record m.old { alive = m.old.alive - 1 } }
+    ensures row { length scratch.new ≡ length scratch.old }
+    ensures parts { (j : ℕ) → j < m.old.alive - 1
+        → part_in scratch.new j ≡ part_to (entry m.old) (m.old.alive - 1) j }
+{
     let state = m.alive() - 1;
     fill_parts(m, state, scratch);
     m.retire();
-    m.update_rows(rt, scratch.as_slice(), workers, gate, place);
 }
 
 /// Adds to the entries between the states that are alive what goes through the next state, in these parts.
