@@ -4,15 +4,19 @@
   program.py build          proves and builds it, unless what is built is of these very sources
   program.py try WORDS..    runs it on these words with no proof, in about a minute and a half
 
-The crates that the program stands on are proved side by side, each as soon as those below it are done.
+The crates that the program stands on are proved side by side, each as soon as those below it are done, in copies of
+the sources.
 """
 import concurrent.futures
 import hashlib
 import os
 import pathlib
+import queue
 import re
+import shutil
 import subprocess
 import sys
+import tempfile
 import time
 import tomllib
 
@@ -63,16 +67,58 @@ def sum_of_sources(names):
     return total.hexdigest()
 
 
-def run_in(name, words):
-    return subprocess.run(["rt", *words], cwd=CRATES / name, text=True, stdin=subprocess.DEVNULL,
+def copied(folder):
+    """The crates of a copy of the sources, in this new folder. The toolchain lets only one command at a time into a
+    checkout's crates and those below them, and gives each checkout what another on the machine has proved."""
+    shutil.copytree(CRATES, folder / "crates", ignore=shutil.ignore_patterns("out", "must-fail"))
+    for name in ("crates.txt", "HANDLES"):
+        shutil.copy(TOP / name, folder)
+    return folder / "crates"
+
+
+def run_in(folder, words):
+    return subprocess.run(words, cwd=folder, text=True, stdin=subprocess.DEVNULL,
                           stdout=subprocess.PIPE, stderr=subprocess.STDOUT)
 
 
-def prove(name):
+def prove(name, is_awaited, copies):
+    """Proves a crate in one of the copies. One that the longest chain waits for has all processors, others what it leaves."""
     began = time.monotonic()
-    # The program is proved and linked by a run of its own example.
-    done = run_in(name, ["run", "--", "solve", "data/a.csv"] if name == PROGRAM else ["lib", "--jobs", "1"])
+    copy = copies.get()
+    try:
+        words = ["rt", "lib", "--jobs", str(os.cpu_count() or 1)] if is_awaited else ["nice", "rt", "lib", "--jobs", "1"]
+        done = run_in(copy / name, words)
+    finally:
+        copies.put(copy)
     return name, done, time.monotonic() - began
+
+
+def failed(name, done):
+    sys.stderr.write(done.stdout)
+    say(f"{name} was not built")
+    return FAILED
+
+
+def prove_side_by_side(graph, copies, processors):
+    """Proves each crate once those below it are proved, those with the longest chain above them first."""
+    heights = {}
+    waiting = sorted(graph, key=lambda name: -height_of(graph, name, heights))
+    proved, running = set(), set()
+    with concurrent.futures.ThreadPoolExecutor(processors) as pool:
+        while waiting or running:
+            ready = [name for name in waiting if proved.issuperset(graph[name])][:processors - len(running)]
+            for name in ready:
+                waiting.remove(name)
+                tallest = max(heights[left] for left in graph if left not in proved)
+                running.add(pool.submit(prove, name, heights[name] == tallest, copies))
+            ended, running = concurrent.futures.wait(running, return_when=concurrent.futures.FIRST_COMPLETED)
+            for name, done, seconds in (one.result() for one in ended):
+                if done.returncode:
+                    pool.shutdown(cancel_futures=True)
+                    return failed(name, done)
+                proved.add(name)
+                say(f"{len(proved)} of {len(graph)}: {name}, {seconds:.0f} s")
+    return 0
 
 
 def build():
@@ -81,23 +127,18 @@ def build():
     if BUILT.exists() and STAMP.exists() and STAMP.read_text() == wanted:
         return 0
     say("proving and building the program, which takes some minutes the first time")
-    heights = {}
-    waiting = sorted(graph, key=lambda name: -height_of(graph, name, heights))
-    proved, running = set(), set()
-    with concurrent.futures.ThreadPoolExecutor(os.cpu_count() or 1) as pool:
-        while waiting or running:
-            for name in [name for name in waiting if proved.issuperset(graph[name])]:
-                waiting.remove(name)
-                running.add(pool.submit(prove, name))
-            ended, running = concurrent.futures.wait(running, return_when=concurrent.futures.FIRST_COMPLETED)
-            for name, done, seconds in (one.result() for one in ended):
-                if done.returncode:
-                    sys.stderr.write(done.stdout)
-                    say(f"{name} was not built")
-                    pool.shutdown(cancel_futures=True)
-                    return FAILED
-                proved.add(name)
-                say(f"{len(proved)} of {len(graph)}: {name}, {seconds:.0f} s")
+    processors = os.cpu_count() or 1
+    libraries = {name: below for name, below in graph.items() if name != PROGRAM}
+    with tempfile.TemporaryDirectory(prefix=f"{PROGRAM}-") as room:
+        copies = queue.Queue()
+        for number in range(processors):
+            copies.put(copied(pathlib.Path(room) / str(number)))
+        if prove_side_by_side(libraries, copies, processors):
+            return FAILED
+        # The program takes what was proved, and is proved and linked by a run of its own example.
+        done = run_in(CRATES / PROGRAM, ["rt", "run", "--", "solve", "data/a.csv"])
+    if done.returncode:
+        return failed(PROGRAM, done)
     STAMP.write_text(wanted)
     return 0
 
