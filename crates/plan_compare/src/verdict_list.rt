@@ -17,18 +17,15 @@ pub enum Verdict {
 #[derive(Debug, Drop)]
 pub struct VerdictList {
     items: Vec<Verdict>,
-    spare: usize,
 }
 
 impl Model for VerdictList {
-    ghost use Rattle.std.specs.Prelude.{◌+◌, ◌≤◌, vec_len, vec_capacity};
+    ghost use Rattle.std.specs.Prelude.{◌-◌, vec_len, vec_capacity};
     ghost use Rattle.plan_compare.specs.Verdicts.{VerdictItems};
 
     ghost Value = { VerdictItems };
 
-    ghost view = { λ a. record { items = a.items.items; spare = a.spare } };
-
-    ghost invariant = { λ a. vec_len a.items + a.spare ≤ vec_capacity a.items };
+    ghost view = { λ a. record { items = a.items.items; spare = vec_capacity a.items - vec_len a.items } };
 }
 
 impl VerdictList {
@@ -43,7 +40,6 @@ impl VerdictList {
         let count = study.measures() * pair_count(study.plans());
         Ok(VerdictList {
             items: Vec::with_capacity(alloc, count)?,
-            spare: count,
         })
     }
 
@@ -54,7 +50,6 @@ impl VerdictList {
         ensures spare { self.new.spare + 1 ≡ self.old.spare }
     {
         self.items.push_reserved(verdict);
-        self.spare -= 1;
     }
 
     /// How many verdicts there are.
