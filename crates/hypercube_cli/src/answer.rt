@@ -2,10 +2,10 @@ ghost use Rattle.std.specs.Prelude.{◌≡◌, IfOk};
 ghost use Rattle.hypercube_cli.specs.Endings.{IsOwn, done_ending, wide_ending};
 
 use crate::Outcome;
-use crate::lines::wide_text;
-use hyper_model::Measure;
+use hyper_model::{Measure, scale};
 use std::alloc::{AllocError, Global};
 use std::marker::Model;
+use text_lines::{push_ends, push_number_field, push_text_field};
 
 /// How a command ends with a text of its own: Done or TooWide, and the text that is to be written.
 #[derive(Drop)]
@@ -47,9 +47,15 @@ impl Answer {
     ) -> Result<Answer, AllocError>
         ensures { IfOk result (λ answer. answer ≡ wide_ending label.now place measure low high) }
     {
+        let mut text = Vec::from_slice(alloc, b"toowide")?;
+        push_number_field(&mut text, u64::from(place))?;
+        push_text_field(&mut text, label)?;
+        text.push(b',')?;
+        push_ends(&mut text, low, high, scale(measure))?;
+        text.push(b'\n')?;
         Ok(Answer {
             outcome: Outcome::TooWide(place, measure, low, high),
-            text: wide_text(alloc, label, place, measure, low, high)?,
+            text,
         })
     }
 

@@ -1,11 +1,10 @@
 ghost use Rattle.std.specs.Prelude.{◌≡◌, ◌++◌, IfOk};
 ghost use Rattle.std.specs.List.{flat_map};
-ghost use Rattle.hypercube_cli.specs.Lines.{argument_field, refusal_line, wide_line};
+ghost use Rattle.hypercube_cli.specs.Lines.{argument_field, refusal_line};
 
 use crate::Refusal;
-use hyper_model::{Measure, scale};
 use std::alloc::{AllocError, Global};
-use text_lines::{push_ends, push_number_field, push_text_field};
+use text_lines::push_number_field;
 
 /// The line that reports a refusal.
 pub(crate) fn refusal_text(alloc: Global, refusal: Refusal) -> Result<Vec<u8>, AllocError>
@@ -16,27 +15,6 @@ pub(crate) fn refusal_text(alloc: Global, refusal: Refusal) -> Result<Vec<u8>, A
     push_number_field(&mut text, u64::from(fields.place))?;
     push_number_field(&mut text, u64::from(fields.number))?;
     push_arguments(&mut text, &fields.arguments)?;
-    text.push(b'\n')?;
-    Ok(text)
-}
-
-/// The line that reports a measure, by the fields of its own line, whose ends lie too far apart in the plan at this
-/// place.
-pub(crate) fn wide_text(
-    alloc: Global,
-    label: &[u8],
-    place: u32,
-    measure: Measure,
-    low: u64,
-    high: u64,
-) -> Result<Vec<u8>, AllocError>
-    ensures { IfOk result (λ text. text.items ≡ wide_line label.now place measure low high) }
-{
-    let mut text = Vec::from_slice(alloc, b"toowide")?;
-    push_number_field(&mut text, u64::from(place))?;
-    push_text_field(&mut text, label)?;
-    text.push(b',')?;
-    push_ends(&mut text, low, high, scale(measure))?;
     text.push(b'\n')?;
     Ok(text)
 }
