@@ -19,7 +19,7 @@ use Rattle.back_solve.specs.Laws.{NextWeightFits}
 pub weight_at : (items : List Ends) (i : ℕ) → i < length items → All IsWeight items → IsWeight (ends_at items i)
 weight_at items i inside all = all i (between 0 0) inside
 
--- sums of products, where one factor of each has its place in a ratio
+-- sums of products, if one factor of each has its place in a ratio
 cross_high : (m l a : ℕ) (x e : ℕ → Ends) (y : ℕ → ℕ) → ((i : ℕ) → i < m → l * y i ≤ (x i).hi * a)
     → l * sum_below m (λ i. y i * (e i).hi) ≤ a * sum_below m (λ i. (x i).hi * (e i).hi)
 cross_high m l a x e y cross =

@@ -25,7 +25,7 @@ tail_low l h a f z calls rest some is cross =
     floor_below (l * calls) rest a (h * z) some
     (omega (arith, ap (λ k. h * k) is, mul-le-mul_left calls cross))
 
--- where calls wait, calls come and all units are busy for a while
+-- if calls wait, calls come and all units are busy for a while
 tail_live : (h f z calls rest : ℕ) → 0 < rest → rest * z ≡ calls * f → (1 ≤ f → 1 ≤ h) → 1 ≤ z
     → 1 ≤ div_ceil (h * calls) rest
 tail_live h f z calls rest some is live waits =

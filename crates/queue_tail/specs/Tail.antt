@@ -12,7 +12,7 @@ tail_weight calls service full = ratio_ends full calls (service - calls)
 abbrev pub GainsTail : ℕ → ℕ → List Ends → List Ends → Type 0
 GainsTail calls service old new = PushesShifted old new (tail_weight calls service (ends_at old (length old - 1)))
 
--- z is the mass of all states in which a call waits, where the last of the masses is that of the word in which
+-- z is the mass of all states in which a call waits, if the last of the masses is that of the word in which
 -- all units are busy
 abbrev pub IsTailOf : ℕ → ℕ → List ℕ → ℕ → Type 0
 IsTailOf calls service masses z = (service - calls) * z ≡ calls * mass_in masses (length masses - 1)
