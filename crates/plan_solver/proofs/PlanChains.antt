@@ -25,13 +25,14 @@ use Rattle.rate_matrix.specs.WordChains.{by_rank, word_rates, word_top}
 use Rattle.rate_matrix.proofs.ExactMatrix.{scale_wide}
 use Rattle.rate_matrix.proofs.WordChains.{chain_balance, chain_descends}
 use Rattle.state_reduction.specs.Laws.{Begins}
+use Rattle.state_reduction.specs.Reductions.{IsReduced}
 use Rattle.state_reduction.proofs.Runs.{apart_rate, begins_sound, holds_every_solution}
 use Rattle.state_reduction.proofs.Soundness.{is_determined, stays_sound}
 use Rattle.back_solve.proofs.NextWeight.{weight_at}
 use Rattle.back_solve.proofs.WeightLists.{depend_on_entries, weights_enclose, weights_in_range}
 use Rattle.queue_tail.specs.Tail.{IsTailOf, tail_weight}
 use Rattle.queue_tail.proofs.Tail.{tail_encloses}
-use Rattle.plan_solver.specs.PlanWeights.{ArePlanWeights, AreWeightsOn, AreWordWeights, first_entries, last_entries, word_caps, word_scale}
+use Rattle.plan_solver.specs.PlanWeights.{ArePlanWeights, AreWeightsOn, AreWordWeights, WeighPlan, first_entries, last_entries, word_caps, word_scale}
 use Rattle.plan_solver.specs.Solvers.{AreFilled, IsSolverOf, SolverParts}
 
 module _ (p : PlanParts) (a : IsAccepted p) (order : WordOrder) (o : IsOrderOf p order) where
@@ -176,7 +177,7 @@ module _ (p : PlanParts) (s : SolverParts) (is : IsSolverOf p s) (m : BandedRate
         depend_on_entries (words p) (words p) (entry m) (last_entries p s.order) items (omega arith) ended
         (subst (λ n. AreWeightsOf (entry m) n items) same_size are)
 
-    pub solved : (items : List Ends) → AreFilled s.line s.calls s.service m items → ArePlanWeights p s.order items
+    solved : (items : List Ends) → AreFilled s.line s.calls s.service m items → ArePlanWeights p s.order items
     solved items are = record {
       ordered = is.ordered;
       weights = on_line p.line
@@ -188,3 +189,12 @@ module _ (p : PlanParts) (s : SolverParts) (is : IsSolverOf p s) (m : BandedRate
         on_line : (l : Line) → AreFilled l (all_calls p) (all_service p) m items → AreWeightsOn l p s.order items
         on_line line.Zero are = of_words items are
         on_line line.Infinite are = (are.0, of_words are.0 are.1, are.2)
+
+  pub weigh_plan : IsReduced s.matrix m → (items : List Ends) → AreFilled s.line s.calls s.service m items
+      → WeighPlan p s.order items
+  weigh_plan reduced items are =
+      let weights : ArePlanWeights p s.order items = solved reduced.frame.size reduced.entries items are in
+      record {
+        weights = weights;
+        encloses = λ xs z x. encloses p is.accepted s.order is.ordered xs z x items weights.weights;
+      }

@@ -6,10 +6,11 @@ use Rattle.hyper_model.specs.declared.kinds.Line.{Line}
 use Rattle.hyper_model.specs.declared.kinds.Line.TheVariants as line
 use Rattle.hyper_model.specs.declared.parts.PlanParts.{PlanParts}
 use Rattle.hyper_model.specs.Plans.{all_calls, all_service}
+use Rattle.hyper_model.specs.Solutions.{IsSolution}
 use Rattle.hyper_model.specs.Tables.{between_states}
 use Rattle.hyper_model.specs.Words.{words}
 use Rattle.busy_words.specs.Order.{WordOrder}
-use Rattle.busy_words.specs.WeightParts.{IsOrderOf}
+use Rattle.busy_words.specs.WeightParts.{EnclosesSolution, IsOrderOf}
 use Rattle.rate_matrix.specs.Elimination.{Entries, entries_left_after, outflow_of}
 use Rattle.rate_matrix.specs.Weights.{AreWeightsOf}
 use Rattle.rate_matrix.specs.WordChains.{word_rates, word_top}
@@ -45,3 +46,8 @@ AreWeightsOn line.Infinite p order items =
 pub record ArePlanWeights (p : PlanParts) (order : WordOrder) (items : List Ends) : Type 0 where
   pub ordered : IsOrderOf p order
   pub weights : AreWeightsOn p.line p order items
+
+-- they are, and they enclose every solution of the plan up to one common factor
+pub record WeighPlan (p : PlanParts) (order : WordOrder) (items : List Ends) : Type 0 where
+  pub weights : ArePlanWeights p order items
+  pub encloses : (xs : List ℕ) (z : ℕ) → IsSolution p xs z → EnclosesSolution p order items xs z

@@ -1,4 +1,5 @@
-ghost use Rattle.std.specs.Prelude.{◌≤◌, All, IfOk};
+ghost use Rattle.std.specs.Prelude.{◌≡◌, ◌≤◌, All, IfOk, List};
+ghost use Rattle.hyper_model.specs.declared.kinds.Enclosed.{Enclosed};
 ghost use Rattle.hyper_model.specs.Measures.{ContainsSolutions, IsInRange};
 ghost use Rattle.hyper_model.specs.Solutions.{HasSolution};
 ghost use Rattle.plan_solver.specs.Enclosures.{IsEnclosureOf};
@@ -15,12 +16,14 @@ use std::thread::Threads;
 ///
 /// The value is the one that Larson's formulas give for any solution of the plan's balance equations, and there is
 /// one (Larson 1974; Larson and Odoni, Urban Operations Research, chapter 5). The two measures of a district from
-/// which no call comes have no value, and no ends. By [`law_enclosure`](crate::law_enclosure) there is one such list.
-/// There is an error only for lack of memory.
+/// which no call comes have no value, and no ends. There is only one such list. There is an error only for lack of
+/// memory.
 pub fn enclose(alloc: Global, plan: &Plan) -> Result<Enclosures, AllocError>
     ensures solvable { HasSolution plan.now }
     ensures exact { IfOk result (λ found. IsEnclosureOf plan.now found.items) }
+    ensures alone { IfOk result (λ found. (others : List Enclosed) → IsEnclosureOf plan.now others → others ≡ found.items) }
     ensures contains { IfOk result (λ found. ContainsSolutions plan.now found.items) }
+    ensures in_range { IfOk result (λ found. All (λ e. IsInRange plan.now e.measure) found.items) }
 {
     law_existence(plan);
     let weighed = Solver::reserved(alloc, plan)?.weigh();
@@ -43,6 +46,7 @@ pub fn enclose_with<R: Threads + Sync, G: Gate + Sync>(
     requires most { workers ≤ 16 }
     ensures solvable { HasSolution plan.now }
     ensures exact { IfOk result (λ found. IsEnclosureOf plan.now found.items) }
+    ensures alone { IfOk result (λ found. (others : List Enclosed) → IsEnclosureOf plan.now others → others ≡ found.items) }
     ensures contains { IfOk result (λ found. ContainsSolutions plan.now found.items) }
     ensures in_range { IfOk result (λ found. All (λ e. IsInRange plan.now e.measure) found.items) }
 {
@@ -55,6 +59,7 @@ pub fn enclose_with<R: Threads + Sync, G: Gate + Sync>(
 fn enclosures(alloc: Global, plan: &Plan, weighed: &Weighed) -> Result<Enclosures, AllocError>
     requires { ArePlanWeights plan.now weighed.now.order weighed.now.weights.items }
     ensures exact { IfOk result (λ found. IsEnclosureOf plan.now found.items) }
+    ensures alone { IfOk result (λ found. (others : List Enclosed) → IsEnclosureOf plan.now others → others ≡ found.items) }
     ensures contains { IfOk result (λ found. ContainsSolutions plan.now found.items) }
     ensures in_range { IfOk result (λ found. All (λ e. IsInRange plan.now e.measure) found.items) }
 {

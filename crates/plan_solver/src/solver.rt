@@ -1,4 +1,4 @@
-use crate::weighing::fill;
+use crate::weighing::Unweighed;
 use busy_words::Order;
 use fixed_interval::Weights;
 use hyper_model::{Line, Plan};
@@ -14,13 +14,9 @@ use std::thread::Threads;
 /// all service. Each plan that has these is the solver's.
 #[derive(Debug, Drop)]
 pub struct Solver {
-    order: Order,
     matrix: RateMatrix,
     row: Row,
-    weights: Weights,
-    line: Line,
-    calls: u32,
-    service: u32,
+    rest: Unweighed,
 }
 
 impl Model for Solver {
@@ -29,9 +25,9 @@ impl Model for Solver {
 
     ghost Value = { SolverParts };
 
-    ghost view = { λ a. record { order = a.order; matrix = a.matrix; line = a.line; calls = a.calls; service = a.service } };
+    ghost view = { λ a. record { order = a.rest.order; matrix = a.matrix; line = a.rest.line; calls = a.rest.calls; service = a.rest.service } };
 
-    ghost invariant = { λ a. IsReady (record { order = a.order; matrix = a.matrix; line = a.line; calls = a.calls; service = a.service }) (length a.row) a.weights };
+    ghost invariant = { λ a. IsReady (record { order = a.rest.order; matrix = a.matrix; line = a.rest.line; calls = a.rest.calls; service = a.rest.service }) (length a.row) a.rest.weights };
 }
 
 /// The weights of a plan, in the order of its words. On the infinite line one more stands after them, for all
@@ -43,8 +39,10 @@ pub struct Weighed {
 }
 
 impl Solver {
-    ghost use Rattle.std.specs.Prelude.{◌≤◌, IfOk};
+    ghost use Rattle.std.specs.Prelude.{◌≤◌, ℕ, IfOk, List};
     ghost use Rattle.hyper_model.specs.declared.parts.PlanParts.{PlanParts};
+    ghost use Rattle.hyper_model.specs.Solutions.{IsSolution};
+    ghost use Rattle.busy_words.specs.WeightParts.{EnclosesSolution};
     ghost use Rattle.plan_solver.specs.PlanWeights.{ArePlanWeights};
     ghost use Rattle.plan_solver.specs.Solvers.{IsSolverOf};
 
@@ -57,34 +55,32 @@ impl Solver {
         let states = order.len();
         Ok(Solver {
             row: Row::reserved(alloc, states)?,
-            weights: Weights::reserved(alloc, states + 1)?,
-            order,
+            rest: Unweighed {
+                weights: Weights::reserved(alloc, states + 1)?,
+                order,
+                line: plan.line(),
+                calls: plan.calls(),
+                service: plan.service(),
+            },
             matrix,
-            line: plan.line(),
-            calls: plan.calls(),
-            service: plan.service(),
         })
     }
 
     /// Eliminates all words but the first, and weighs them one after the other (Grassmann, Taksar and Heyman 1985).
     ///
-    /// By [`law_weights`](crate::law_weights) the weights enclose every solution of the plan, up to one common factor.
-    /// No memory is taken.
+    /// The weights enclose every solution of the plan, up to one common factor. No memory is taken.
     pub fn weigh(self) -> Weighed
         ensures weights { (p : PlanParts) → IsSolverOf p self → ArePlanWeights p result.order result.weights.items }
+        ensures encloses { (p : PlanParts) → IsSolverOf p self → (xs : List ℕ) (z : ℕ) → IsSolution p xs z
+            → EnclosesSolution p result.order result.weights.items xs z }
     {
         let Solver {
-            order,
             mut matrix,
             mut row,
-            mut weights,
-            line,
-            calls,
-            service,
+            rest,
         } = self;
         reduce_packed(&mut matrix, &mut row);
-        fill(&mut weights, &matrix, line, calls, service);
-        Weighed { order, weights }
+        rest.weigh(&matrix)
     }
 
     /// Does what [`Solver::weigh`] does, the rows of each elimination by 1 to 16 workers.
@@ -101,18 +97,15 @@ impl Solver {
         requires some { 1 ≤ workers }
         requires most { workers ≤ 16 }
         ensures weights { (p : PlanParts) → IsSolverOf p self → ArePlanWeights p result.order result.weights.items }
+        ensures encloses { (p : PlanParts) → IsSolverOf p self → (xs : List ℕ) (z : ℕ) → IsSolution p xs z
+            → EnclosesSolution p result.order result.weights.items xs z }
     {
         let Solver {
-            order,
             mut matrix,
             mut row,
-            mut weights,
-            line,
-            calls,
-            service,
+            rest,
         } = self;
         reduce_rows(rt, &mut matrix, &mut row, workers, gate, place);
-        fill(&mut weights, &matrix, line, calls, service);
-        Weighed { order, weights }
+        rest.weigh(&matrix)
     }
 }

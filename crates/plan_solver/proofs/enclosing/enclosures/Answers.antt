@@ -1,6 +1,6 @@
 use Rattle.std.proofs.lemmas.Result.{IfOk-weaker}
 use Rattle.plan_solver.proofs.PlanChains.{one_each}
-use Rattle.plan_solver.proofs.AllMeasures.{enclosure_contains, enclosure_in_range, enclosure_is}
+use Rattle.plan_solver.proofs.AllMeasures.{enclosure_contains, enclosure_in_range, enclosure_is, one_enclosure}
 use Rattle.plan_solver.proofs.enclosing.enclosures.Goals as goal
 
 pub measures-requires-clause-order : goal.measures-requires-clause-order
@@ -16,6 +16,11 @@ returns-clause-exact c =
     IfOk-weaker c.measures.result _ _
     (λ found is. enclosure_is c.args.plan.now c.args.weighed.now.order c.args.weighed.now.weights.items c.requires found.items is)
     c.measures.ensures
+
+pub returns-clause-alone : goal.returns-clause-alone
+returns-clause-alone c =
+    IfOk-weaker c.measures.result _ _ (λ found is others. one_enclosure c.args.plan.now found.items others is)
+    (returns-clause-exact c)
 
 pub returns-clause-contains : goal.returns-clause-contains
 returns-clause-contains c =

@@ -1,18 +1,11 @@
 use Rattle.std.proofs.Common.{subst, sym}
-use Rattle.plan_solver.specs.Solvers.{IsSolverOf, SolverParts}
-use Rattle.plan_solver.proofs.PlanChains.{solved}
+use Rattle.hyper_model.specs.declared.parts.PlanParts.{PlanParts}
+use Rattle.plan_solver.specs.PlanWeights.{WeighPlan}
+use Rattle.plan_solver.specs.Solvers.{IsSolverOf}
 use Rattle.plan_solver.proofs.solver.Solver.weigh_with.Goals as goal
 
 pub returns : goal.returns
-returns g c = record {
-  weights = λ p is.
-      let s : SolverParts = record {
-        order = c.self.inside.order;
-        matrix = c.self.inside.matrix;
-        line = c.self.inside.line;
-        calls = c.self.inside.calls;
-        service = c.self.inside.service;
-      } in
-      solved p s (subst (IsSolverOf p) (sym c.self.view_is) is) c.reduce_rows.new.m c.reduce_rows.ensures.reduced.frame.size
-      c.reduce_rows.ensures.reduced.entries c.fill.new.weights.items c.fill.ensures;
-}
+returns g c =
+    let weigh : (p : PlanParts) → IsSolverOf p c.args.self → WeighPlan p c.weigh.result.order c.weigh.result.weights.items =
+    λ p is. c.weigh.ensures p c.self.inside.matrix c.reduce_rows.ensures.reduced (subst (IsSolverOf p) (sym c.self.view_is) is) in
+    record { weights = λ p is. (weigh p is).weights; encloses = λ p is. (weigh p is).encloses }
