@@ -6,17 +6,18 @@ use outer_world::{FileShelf, StdoutSink};
 use rate_matrix::OpenGate;
 use std::alloc::AllocError;
 use std::env;
+use std::io::ErrorKind;
 use std::process::ExitCode;
 
-/// The arguments after the program's name; none if one of them is no text.
+/// The arguments after the program's name; none if one of them is not UTF-8, since no command has such a word.
 fn arguments_of(rt: &HostRuntime) -> Result<Vec<String>, AllocError> {
-    let mut arguments = Vec::new(rt.alloc());
-    if let Ok(all) = env::args(rt) {
-        for argument in all.skip(1) {
-            arguments.push(argument)?;
-        }
+    match env::args(rt) {
+        Ok(all) => all.skip(1).collect(rt.alloc()),
+        Err(error) => match error.kind() {
+            ErrorKind::OutOfMemory => Err(AllocError),
+            _ => Ok(Vec::new(rt.alloc())),
+        },
     }
-    Ok(arguments)
 }
 
 fn main(rt: HostRuntime) -> ExitCode {
