@@ -6,7 +6,7 @@ ghost use Rattle.preference_rules.specs.Centred.{centred_lists};
 use crate::order::centre_list;
 use crate::points::{call_place, unit_place, way};
 use crate::rows::put_members;
-use hyper_model::{Atom, Atoms, Lists, Rule, Table, Units};
+use hyper_model::{Atom, Atoms, Lists, MOST_UNITS, Rule, Table, Units};
 use std::alloc::{AllocError, Global};
 
 /// The preference lists of the centre-of-mass rules: the units by their mean distance to a call, along the two axes of
@@ -44,7 +44,7 @@ fn order_of(
     located: &Table,
     atom: &Atom,
 ) -> Result<Vec<u8>, AllocError>
-    requires units { located.now.rows ≤ 12 }
+    requires units { located.now.rows ≤ MOST_UNITS }
     requires atoms { located.now.cols ≡ length atoms.now }
     ensures { IfOk result (λ order.
         order.items ≡ spec.centre_list (cost_of rule atoms.now located.now atom.now) atom.now.district located.now.rows) }

@@ -8,7 +8,7 @@ ghost use Rattle.preference_rules.specs.Given as given;
 
 use crate::ListRefusal;
 use atom_table::AtomTable;
-use hyper_model::Names;
+use hyper_model::{MOST_ATOMS, Names};
 use std::alloc::{AllocError, Global};
 use std::marker::Model;
 
@@ -98,10 +98,9 @@ impl Draft {
         Ok(())
     }
 
-    /// Refuses the list of this atom, counted from 0, where no record is for it or where it does not hold each unit
-    /// once.
+    /// Refuses the list of this atom, counted from 0, if no record is for it, or if it does not hold each unit once.
     pub(crate) fn check(&self, atom: usize, units: usize) -> Result<(), ListRefusal>
-        requires { atom < 200 }
+        requires { atom < MOST_ATOMS }
         ensures { Refuses result (draft_refusal units atom self.now) }
     {
         if !self.is_listed {

@@ -10,7 +10,7 @@ use crate::ListRefusal;
 use crate::draft::Draft;
 use crate::rows::put_row;
 use atom_table::AtomTable;
-use hyper_model::Lists;
+use hyper_model::{Lists, MOST_ATOMS, MOST_UNITS};
 use plan_text::Record;
 use std::alloc::{AllocError, Global};
 
@@ -39,7 +39,7 @@ fn read_drafts(
     ensures refusal { Checks ListRefusal.NoMemory result (twice_records_refusal (atom_names names.now.atoms) records.now) }
     ensures drafts { IfOk result (λ drafts.
         drafts.items ≡ drafts_of (unit_names names.now.units) (atom_names names.now.atoms) records.now) }
-    ensures most { IfOk result (λ drafts. length drafts.items ≤ 200) }
+    ensures most { IfOk result (λ drafts. length drafts.items ≤ MOST_ATOMS) }
 {
     let mut drafts = no_drafts(alloc, names.atoms().len())?;
     for item in records {
@@ -86,7 +86,7 @@ fn take_record(names: &AtomTable, item: &Record, drafts: &mut Vec<Draft>) -> Res
 
 /// Refuses the first list that no record is for, or that does not hold each unit once.
 fn check_drafts(drafts: &Vec<Draft>, units: usize) -> Result<(), ListRefusal>
-    requires { length drafts.now.items ≤ 200 }
+    requires { length drafts.now.items ≤ MOST_ATOMS }
     ensures { Refuses result (drafts_refusal units drafts.now.items) }
 {
     for j in 0..drafts.len() {
@@ -98,8 +98,8 @@ fn check_drafts(drafts: &Vec<Draft>, units: usize) -> Result<(), ListRefusal>
 
 /// The lists of the drafts, each of which holds so many units.
 fn draft_lists(alloc: Global, drafts: &Vec<Draft>, units: usize) -> Result<Lists, AllocError>
-    requires units { units ≤ 12 }
-    requires atoms { length drafts.now.items ≤ 200 }
+    requires units { units ≤ MOST_UNITS }
+    requires atoms { length drafts.now.items ≤ MOST_ATOMS }
     requires rows { All (IsFilled units) drafts.now.items }
     ensures { IfOk result (λ lists. lists ≡ draft_rows units drafts.now.items) }
 {
