@@ -21,7 +21,7 @@ use Rattle.atom_table.specs.declared.refusal.AtomRefusal.TheVariants.{NoCalls, R
 use Rattle.atom_table.proofs.OwnNames.{AreOwn, own_none, own_push, unit_place-within}
 use Rattle.atom_table.proofs.StepByStep.{Passes, entries_of-ok}
 
--- of two tests that refuse, neither holds where nothing is refused
+-- of two tests that refuse, neither holds if nothing is refused
 two_fail : (a b : Bool) (x y : AtomRefusal) → (if a then Some x else if b then Some y else None) ≡ None
     → (a ≡ false) × (b ≡ false)
 two_fail false false x y h = (refl, refl)

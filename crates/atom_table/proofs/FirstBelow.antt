@@ -36,7 +36,7 @@ find-same f g a (suc n) h =
     let rest = find-same f g (a + 1) n (λ k low high. h k (omega arith) (omega arith)) in
     rw (h a (omega arith) (omega arith), rest) refl
 
--- where none passes, each number below n fails
+-- if none passes, each number below n fails
 pub find-none : (test : ℕ → Bool) (a n : ℕ) → find test (range_with_len a n) ≡ None
     → (k : ℕ) → a ≤ k → k < a + n → test k ≡ false
 find-none test a zero h k low high = absurd (omega arith)

@@ -26,7 +26,7 @@ listed f n d xs size each =
 listed_at : {X : Type 0} (f : ℕ → X) (n k : ℕ) (d : X) → k < n → get_or (map f (range_with_len 0 n)) k d ≡ f k
 listed_at f n k d lt = get_or-map-range_with_len f 0 n k k d lt (omega arith)
 
--- a value at place k, where g is f but for that
+-- a value at place k, if g is f but for that
 pub listed_set : {X : Type 0} (f g : ℕ → X) (n k : ℕ) (x d : X) → k < n → g k ≡ x → ((i : ℕ) → i < n → i ≢ k → g i ≡ f i)
     → set (map f (range_with_len 0 n)) k x ≡ map g (range_with_len 0 n)
 listed_set {X} f g n k x d lt here others =

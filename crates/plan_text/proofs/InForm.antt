@@ -278,12 +278,12 @@ records_after-in_form before (row ∷ rows) found h =
     let size : length (before ++ row ∷ []) ≡ length before + 1 = length-append before (row ∷ []) in
     let so : IsInFormFrom (length before + 1 + 1) others =
     rw size at (records_after-in_form (before ++ row ∷ []) rows others more) in
-    rw (sym is) (behind read one others so)
+    rw (sym is) (with_read read one others so)
   where
-    behind : (read : Option Record) → row_reading before row ≡ Ok read → (others : List Record)
+    with_read : (read : Option Record) → row_reading before row ≡ Ok read → (others : List Record)
         → IsInFormFrom (length before + 1 + 1) others → IsInFormFrom (length before + 1) (option_to_list read ++ others)
-    behind None one others so = record { each = later (length before + 1) others so.each; rising = so.rising }
-    behind (Some r) one others so =
+    with_read None one others so = record { each = later (length before + 1) others so.each; rising = so.rising }
+    with_read (Some r) one others so =
         let (fits, few) = reading_of-fits (length before + 1) (list_any is_version_two before) row r one in
         let first : IsFrom (length before + 1) r =
         record { values = fits.values; low = omega (arith, fits.number); high = omega (arith, fits.number, few) } in

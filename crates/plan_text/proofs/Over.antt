@@ -7,7 +7,7 @@ use Rattle.std.proofs.lemmas.List.{append-nil, drop_all, drop_more, take_more}
 use Rattle.std.proofs.lemmas.List.Elements.{All-cons, All-head, All-nil, All-tail, filter_map-append}
 use Rattle.plan_text.specs.Steps.{first_over}
 
--- what is left, where x is at place i
+-- what is left, if x is at place i
 rest_at : {A : Type 0} (xs : List A) (i : ℕ) (x : A) → i < length xs → get_or xs i x ≡ x → drop i xs ≡ x ∷ drop (i + 1) xs
 rest_at xs i x lt is = rw is at (drop_more xs i x lt)
 
@@ -57,7 +57,7 @@ pub option_or-none : {E : Type 0} (a b : Option E) → option_or a b ≡ None �
 option_or-none None b h = (refl, h)
 option_or-none (Some e) b h = absurd (cc)
 
--- where nothing is refused, each thing passes after those before it
+-- if nothing is refused, each thing passes after those before it
 pub over-each : {A E : Type 0} (test : List A → A → Option E) (before xs : List A) → first_over test before xs ≡ None
     → (i : ℕ) (d : A) → i < length xs → test (before ++ take i xs) (get_or xs i d) ≡ None
 over-each test before [] h i d lt = absurd (omega arith)
@@ -69,7 +69,7 @@ over-each test before (x ∷ xs) h (suc i) d lt =
     let rest = over-each test (before ++ x ∷ []) xs first.1 i d (omega arith) in
     rw append_assoc at rest
 
--- where nothing is refused, what each thing that passes keeps holds of all together
+-- if nothing is refused, what each thing that passes keeps holds of all together
 pub over-kept : {A E : Type 0} (test : List A → A → Option E) (P : List A → Type 0)
     → ((before : List A) (x : A) → test before x ≡ None → P before → P (before ++ x ∷ []))
     → (before xs : List A) → first_over test before xs ≡ None → P before → P (before ++ xs)

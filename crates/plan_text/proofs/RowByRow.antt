@@ -63,16 +63,16 @@ unfolding records_after
 records_after-done rows place front none = rw (none, append-nil front) refl
 
 -- the first refusal of rows that stand after others
-record IsFirstBehind (before rows : List Fields) (place : ℕ) (e : TextRefusal) : Type 0 where
+record IsFirstAfter (before rows : List Fields) (place : ℕ) (e : TextRefusal) : Type 0 where
   within : place < length rows
   refused : row_reading (before ++ take place rows) (slice_index_or rows place []) ≡ Err e
   earlier : (k : ℕ) → k < place → IsOk (row_reading (before ++ take k rows) (slice_index_or rows k []))
 
-first_behind : (before rows : List Fields) (e : TextRefusal) → records_after before rows ≡ Err e
-    → (place : ℕ) × IsFirstBehind before rows place e
+first_after : (before rows : List Fields) (e : TextRefusal) → records_after before rows ≡ Err e
+    → (place : ℕ) × IsFirstAfter before rows place e
 unfolding records_after
-first_behind before [] e h = absurd (cc)
-first_behind before (row ∷ rows) e h = by (row_reading before row) refl h (first_behind (before ++ row ∷ []) rows e)
+first_after before [] e h = absurd (cc)
+first_after before (row ∷ rows) e h = by (row_reading before row) refl h (first_after (before ++ row ∷ []) rows e)
   where
     none : (others : Result (List Record) TextRefusal) (read : Option Record)
         → (others >>= λ found. Ok (option_to_list read ++ found)) ≡ Err e → others ≡ Err e
@@ -80,7 +80,7 @@ first_behind before (row ∷ rows) e h = by (row_reading before row) refl h (fir
     none (Err other) read q = q
 
     next : (read : Option Record) → row_reading before row ≡ Ok read
-        → (place : ℕ) × IsFirstBehind (before ++ row ∷ []) rows place e → (place : ℕ) × IsFirstBehind before (row ∷ rows) place e
+        → (place : ℕ) × IsFirstAfter (before ++ row ∷ []) rows place e → (place : ℕ) × IsFirstAfter before (row ∷ rows) place e
     next read ok (place, first) = (
       suc place,
       record {
@@ -91,15 +91,15 @@ first_behind before (row ∷ rows) e h = by (row_reading before row) refl h (fir
     )
       where
         at_place : (read : Option Record) → row_reading before row ≡ Ok read → (place : ℕ)
-            → IsFirstBehind (before ++ row ∷ []) rows place e → (k : ℕ) → k < suc place
+            → IsFirstAfter (before ++ row ∷ []) rows place e → (k : ℕ) → k < suc place
             → IsOk (row_reading (before ++ take k (row ∷ rows)) (slice_index_or (row ∷ rows) k []))
         at_place read ok place first zero lt = rw (append-nil before, ok) refl
         at_place read ok place first (suc k) lt = rw append_assoc at (first.earlier k (omega arith))
 
     by : (given : Result (Option Record) TextRefusal) → row_reading before row ≡ given
         → (given >>= λ read. records_after (before ++ row ∷ []) rows >>= λ others. Ok (option_to_list read ++ others)) ≡ Err e
-        → (records_after (before ++ row ∷ []) rows ≡ Err e → (place : ℕ) × IsFirstBehind (before ++ row ∷ []) rows place e)
-        → (place : ℕ) × IsFirstBehind before (row ∷ rows) place e
+        → (records_after (before ++ row ∷ []) rows ≡ Err e → (place : ℕ) × IsFirstAfter (before ++ row ∷ []) rows place e)
+        → (place : ℕ) × IsFirstAfter before (row ∷ rows) place e
     by (Ok read) ok q more = next read ok (more (none (records_after (before ++ row ∷ []) rows) read q))
     by (Err other) refused q more = (
       0,
@@ -112,5 +112,5 @@ first_behind before (row ∷ rows) e h = by (row_reading before row) refl h (fir
 
 pub first_refused : (rows : List Fields) (e : TextRefusal) → records_after [] rows ≡ Err e → (place : ℕ) × IsFirstRefused rows place e
 first_refused rows e h =
-    let (place, first) = first_behind [] rows e h in
+    let (place, first) = first_after [] rows e h in
     (place, record { within = first.within; refused = first.refused; earlier = first.earlier })

@@ -63,7 +63,7 @@ pub record GivesRows (reader : Reader (Bor (List ℕ))) (rows : List Fields) : T
   pub source : source_of (λ (s : Bor (List ℕ)). Some s.now) reader ≡ Some bytes
   pub left : map clean_row (records_left reader.state bytes) ≡ rows
 
--- where a list begins, from a place on
+-- what stands at a place, if the list from there on begins with it
 at_drop : (rows : List Fields) (n : ℕ) (row : Fields) (rest : List Fields) → drop n rows ≡ row ∷ rest
     → (n < length rows) × (row ≡ slice_index_or rows n []) × (rest ≡ drop (n + 1) rows)
 at_drop [] zero row rest h = absurd (cc)

@@ -11,7 +11,7 @@ use Rattle.csv.specs.declared.parser.Terminator.{Terminator}
 use Rattle.csv.specs.declared.parser.Terminator.TheVariants as term
 use Rattle.plan_text.specs.Rows.{without_marks}
 
--- where a byte ends a record, the state after it is between records
+-- if a byte ends a record, the state after it is between records
 record EndsBetween (next : State × Action) : Type 0 where
   between : is_end next.1 ≡ true → ends_at_end next.0 ≡ false
 

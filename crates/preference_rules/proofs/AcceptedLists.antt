@@ -25,7 +25,7 @@ use Rattle.preference_rules.specs.Places.{cost_of}
 use Rattle.preference_rules.proofs.CentreLists.{centre_is}
 use Rattle.preference_rules.proofs.GivenRows.{lists_refusal-is, passed_full}
 
--- what is given where nothing is refused
+-- what is given if nothing is refused
 unrefused : {A E : Type 0} (refused : Option E) (x y : A) → (unless_refused refused >>= λ _. Ok x) ≡ Ok y → (refused ≡ None) × (y ≡ x)
 unrefused None x y h = (refl, cc)
 unrefused (Some e) x y h = absurd (cc)

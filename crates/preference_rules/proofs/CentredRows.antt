@@ -16,7 +16,7 @@ use Rattle.preference_rules.proofs.ListRows.{blank_at, made_more, made_rows}
 abbrev pub blank_row : ℕ → AtomList
 blank_row units = record { members = replicate units 0; begins = replicate units true }
 
--- the lists where those of the first j atoms are made
+-- the lists after those of the first j atoms are made
 abbrev pub centred_first : Rule → ℕ → List Atom → Grid → ℕ → GroupLists
 centred_first rule units atoms located j =
     record { units = units; rows = made_rows (centred_row rule units atoms located) (blank_row units) atoms j }

@@ -159,7 +159,7 @@ pub begins-more : (rows : GroupLists) (atom place : ℕ) (begins : List Bool) (h
 begins-more rows atom place begins true there lt long is = begins-passed rows atom place begins lt long is
 begins-more rows atom place begins false there lt long is = begins-joined rows atom place begins there lt long is
 
--- the lists where those of the first drafts are made
+-- the lists after those of the first drafts are made
 abbrev pub drafts_first : ℕ → List Draft → ℕ → GroupLists
 drafts_first units drafts j = record { units = units; rows = made_rows (λ (draft : Draft). draft.row) (blank_row units) drafts j }
 

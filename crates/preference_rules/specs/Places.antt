@@ -29,7 +29,7 @@ abbrev pub district_rate : List Atom → ℕ → ℕ
 district_rate atoms district =
     sum_below (length atoms) (λ k. if (nth_atom atoms k).district == district then (nth_atom atoms k).rate else 0)
 
--- what an atom counts in the mean place of a district whose calls have this rate: its own calls, and 1 where the
+-- what an atom counts in the mean place of a district whose calls have this rate: its own calls, and 1 if the
 -- district has none; an atom of another district counts nothing
 abbrev pub weight_in : ℕ → ℕ → Atom → ℕ
 weight_in district rate atom =
