@@ -1,9 +1,10 @@
-ghost use Rattle.std.specs.Prelude.{◌≡◌, ◌<◌, ◌≤◌, IfOk};
+ghost use Rattle.std.specs.Prelude.{◌≡◌, ◌≤◌, IfOk};
 ghost use Rattle.hyper_model.specs.Plans.{units};
 
+use crate::digests::{digest_of_entries, digest_of_weights};
 use back_solve::solve_back;
 use busy_words::Order;
-use fixed_interval::{Iv, Weights};
+use fixed_interval::Weights;
 use hyper_model::{Line, Plan};
 use queue_tail::add_tail;
 use rate_matrix::{OpenGate, RateMatrix, WordChain};
@@ -18,83 +19,60 @@ pub(crate) fn order_of(alloc: Global, plan: &Plan) -> Result<Order, AllocError>
     Order::of(alloc, plan.units() as u8)
 }
 
-/// The low and the high end of an interval.
-pub(crate) type Ends = (u128, u128);
-
-fn ends_of(interval: Iv) -> Ends {
-    (u128::from(interval.lo()), u128::from(interval.hi()))
-}
-
-/// The ends of all entries between different states, row by row.
-pub(crate) fn entries_of(alloc: Global, m: &RateMatrix) -> Result<Vec<Ends>, AllocError> {
-    let mut entries = Vec::new(alloc);
-    for i in 0..m.size() {
-        push_row(&mut entries, m, i)?;
-    }
-    Ok(entries)
-}
-
-fn push_row(entries: &mut Vec<Ends>, m: &RateMatrix, i: usize) -> Result<(), AllocError>
-    requires { i < m.now.size }
-{
-    for j in 0..m.size() {
-        if i != j {
-            entries.push(ends_of(m.entry(i, j)))?;
-        }
-    }
-    Ok(())
-}
-
-/// The chain's dense matrix after the elimination.
-pub(crate) fn dense_left(alloc: Global, chain: &WordChain) -> Result<RateMatrix, AllocError> {
+/// The digests of the rates of a chain and of the entries that are left of them, by the dense form.
+pub(crate) fn dense_digests(alloc: Global, chain: &WordChain) -> Result<(u64, u64), AllocError> {
     let mut m = RateMatrix::dense(alloc, chain)?;
     let mut scratch = Row::reserved(alloc, m.size())?;
+    let rates = digest_of_entries(&m);
     reduce(&mut m, &mut scratch);
-    Ok(m)
+    Ok((rates, digest_of_entries(&m)))
 }
 
-/// The chain's packed matrix after the elimination.
-pub(crate) fn packed_left(alloc: Global, chain: &WordChain) -> Result<RateMatrix, AllocError>
-    ensures { IfOk result (λ m. m.alive ≡ 1) }
-{
+/// The same by the packed form.
+pub(crate) fn packed_digests(alloc: Global, chain: &WordChain) -> Result<(u64, u64), AllocError> {
     let mut m = RateMatrix::packed(alloc, chain)?;
     let mut scratch = Row::reserved(alloc, m.size())?;
+    let rates = digest_of_entries(&m);
     reduce_packed(&mut m, &mut scratch);
-    Ok(m)
+    Ok((rates, digest_of_entries(&m)))
 }
 
-/// The chain's packed matrix after the elimination by so many workers.
-pub(crate) fn left_by_workers<R: Threads + Sync>(
+/// The digest of the entries that are left of a chain by so many workers.
+pub(crate) fn digest_by_workers<R: Threads + Sync>(
     rt: &R,
     alloc: Global,
     chain: &WordChain,
     workers: u32,
-) -> Result<RateMatrix, AllocError>
+) -> Result<u64, AllocError>
     requires some { 1 ≤ workers }
     requires most { workers ≤ 16 }
 {
     let mut m = RateMatrix::packed(alloc, chain)?;
     let mut scratch = Row::reserved(alloc, m.size())?;
     reduce_rows(rt, &mut m, &mut scratch, workers, &OpenGate, 0);
-    Ok(m)
+    Ok(digest_of_entries(&m))
 }
 
-/// The ends of a plan's weights by rank, and behind them of that of the calls that wait.
-pub(crate) fn weights_of(alloc: Global, plan: &Plan) -> Result<Vec<Ends>, AllocError> {
-    let order = order_of(alloc, plan)?;
-    let m = packed_left(alloc, &WordChain::of(plan, &order))?;
+/// The digest of a plan's weights by rank, and after them of that of the calls that wait.
+pub(crate) fn weights_digest(
+    alloc: Global,
+    plan: &Plan,
+    chain: &WordChain,
+) -> Result<u64, AllocError> {
+    let m = packed_left(alloc, chain)?;
     let mut weights = Weights::reserved(alloc, m.size() + 1)?;
     solve_back(&m, &mut weights);
     if plan.line() == Line::Infinite {
         add_tail(&mut weights, plan.calls(), plan.service());
     }
-    all_ends_of(alloc, &weights)
+    Ok(digest_of_weights(&weights))
 }
 
-fn all_ends_of(alloc: Global, weights: &Weights) -> Result<Vec<Ends>, AllocError> {
-    let mut all = Vec::new(alloc);
-    for place in 0..weights.len() {
-        all.push(ends_of(weights.get(place)))?;
-    }
-    Ok(all)
+fn packed_left(alloc: Global, chain: &WordChain) -> Result<RateMatrix, AllocError>
+    ensures { IfOk result (λ m. m.alive ≡ 1) }
+{
+    let mut m = RateMatrix::packed(alloc, chain)?;
+    let mut scratch = Row::reserved(alloc, m.size())?;
+    reduce_packed(&mut m, &mut scratch);
+    Ok(m)
 }

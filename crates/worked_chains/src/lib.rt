@@ -1,18 +1,18 @@
 //! Tests of the way from a plan's text to the weights of its words, through all the crates on it.
 //!
-//! Wanted values come from outside: solved by hand, computed by another program with numbers without bound, or by
-//! the plain loops of `plain`, which know nothing of the crates' intervals.
+//! Wanted values come from outside: worked by hand, or found by `bench/chain_digests.py` from the same texts in whole
+//! numbers without bound.
 #![tactic(auto)]
 
 #[cfg(test)]
+mod by_hand;
+#[cfg(test)]
+mod cases;
+#[cfg(test)]
 mod chains;
 #[cfg(test)]
-mod eliminations;
+mod digests;
 #[cfg(test)]
-mod plain;
+mod every_way;
 #[cfg(test)]
-mod plans;
-#[cfg(test)]
-mod rates;
-#[cfg(test)]
-mod weights;
+mod steps;
