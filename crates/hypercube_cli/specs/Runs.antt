@@ -1,5 +1,5 @@
 -- What a run of the program comes to, by the endings that its command means.
-use Rattle.std.specs.Prelude.{◌≡◌, ◌⊎◌, ℕ, List, Option, Some, None, Result, Ok, Err, IfSome}
+use Rattle.std.specs.Prelude.{◌≡◌, ◌⊎◌, ℕ, List, Option, Result, Ok, Err, IfSome}
 use Rattle.std.specs.Io.KnownBytes.{Appends, Keeps}
 use Rattle.outer_world.specs.Sink.{AppendsFront}
 use Rattle.hypercube_cli.specs.declared.outcome.Outcome.{Outcome}

@@ -1,5 +1,5 @@
 -- Why a command came to no text of its own, and the ending that this is.
-use Rattle.std.specs.Prelude.{◌≡◌, Option, Some, None}
+use Rattle.std.specs.Prelude.{Option, Some, None}
 use Rattle.hypercube_cli.specs.declared.stop.Stop.{Stop}
 use Rattle.hypercube_cli.specs.declared.stop.Stop.TheVariants as stop
 use Rattle.hypercube_cli.specs.Endings.{Ending, absent_ending, refused_ending, usage_ending}
