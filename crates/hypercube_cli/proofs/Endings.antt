@@ -109,6 +109,7 @@ pub usage_finishes : (asked : Option Command) (told : Option (List NamedText)) (
     → IfSome (texts_for (meaning_of asked) told) (λ texts. Runs ((meaning_of asked).ends texts) result before after)
     → (result ≡ outcome.ReadFault → (meaning_of asked).asks told fault)
     → Finishes usage_ending result before after
+unfolding meaning_of
 usage_finishes None told fault result before after none (inl finishes) asks =
     subst (λ (ending : Ending). Finishes ending result before after) finishes.is_one finishes.finishes
 usage_finishes None told fault result before after none (inr ended) asks =

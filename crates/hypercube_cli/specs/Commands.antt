@@ -17,7 +17,7 @@ usage_meaning = record {
   reads = false;
 }
 
-abbrev pub meaning_of : Option Command → Meaning
+unfoldable pub meaning_of : Option Command → Meaning
 meaning_of None = usage_meaning
 meaning_of (Some (command.Solve file widths workers summary)) = solve_meaning file widths summary
 meaning_of (Some (command.Compare study widths workers)) = compare_meaning study widths

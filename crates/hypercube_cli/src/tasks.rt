@@ -63,6 +63,7 @@ impl Task for Command {
 
     ghost has_workers = { WorkersInRange };
 
+    #[tactic(auto, unfolding(crate::specs::Commands::meaning_of))]
     fn answer<S: Shelf, E: Fn(&[Plan], u32) -> Result<Vec<Enclosures>, AllocError>>(
         self,
         alloc: Global,

@@ -73,6 +73,7 @@ pub fn hypercube<R: Threads + Sync, S: Shelf, K: Sink, G: Gate + Sync>(
 }
 
 /// What the arguments come to.
+#[tactic(auto, unfolding(crate::specs::Commands::meaning_of))]
 fn answer_of<R: Threads + Sync, S: Shelf, G: Gate + Sync>(
     rt: &R,
     alloc: Global,

@@ -7,12 +7,14 @@ use Rattle.hypercube_cli.specs.declared.outcome.Outcome.TheVariants as outcome
 use Rattle.hypercube_cli.proofs.tasks.CommandTask.answer.Goals as goal
 
 pub returns-in-Solve-clause-proved : goal.returns-in-Solve-clause-proved
+unfolding meaning_of
 returns-in-Solve-clause-proved g c =
     subst (λ (asked : Command). IfSome (texts_for (meaning_of (Some asked)) (g.S.Shelf.told c.args.shelf.now))
     (λ texts. IfOk c.answer.result (λ ending. ending.outcome ≡ outcome.Done → (meaning_of (Some asked)).proves texts ending.text)))
     (sym c.in-Solve.is) c.answer.ensures.proved
 
 pub returns-in-Compare-clause-proved : goal.returns-in-Compare-clause-proved
+unfolding meaning_of
 returns-in-Compare-clause-proved g c =
     subst (λ (asked : Command). IfSome (texts_for (meaning_of (Some asked)) (g.S.Shelf.told c.args.shelf.now))
     (λ texts. IfOk c.answer-in-Compare.result (λ ending. ending.outcome ≡ outcome.Done → (meaning_of (Some asked)).proves texts ending.text)))
