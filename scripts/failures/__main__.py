@@ -3,7 +3,7 @@
 Each try is one run of the program and one judgement of its status and of the bytes that it wrote. Calls are refused by their
 numbers, by failing.c, which gcc builds into a temporary folder. The parts are
 
-  texts     texts that are refused, with the most memory that each may cost
+  texts     long texts that are refused, with the most memory that each may cost
   places    folders, missing files, a full disk, a closed standard output, long names, words that are not UTF-8
   reading   opens and reads that fail, and reads of one byte at a time
   writing   writes that fail, and writes of one byte at a time
@@ -68,11 +68,12 @@ def evenly(count, most):
 
 
 def hostile_texts(world):
-    """Long texts that are refused, each within its memory."""
+    """Long texts that are refused, each within its memory and 1 MB of stack."""
     for text in TEXTS:
         world.write(text)
         command = "compare" if text.name.endswith(".toml") else "solve"
-        yield Try(f"{text.name}, within {text.megabytes} MB", [command, text.name], refused_within(text))
+        yield Try(f"{text.name}, within {text.megabytes} MB", [command, text.name], refused_within(text),
+                  output="pipe, with a stack of 1 MB")
 
 
 def odd_places(world):

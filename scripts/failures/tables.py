@@ -3,8 +3,9 @@ import dataclasses
 
 MOST_BYTES = 4194304
 MEGABYTES = 40
-# A row of four million fields is one record, which is kept whole until it is judged.
+# A row of four million fields is one record, which is kept whole until it is judged, as a study is.
 MEGABYTES_OF_ONE_ROW = 140
+MEGABYTES_OF_A_STUDY = 140
 
 USAGE = (b"usage: hypercube solve FILE | compare STUDY | make UNITS NUMBER"
          b" [--width W] [--time-width W] [--workers N] [--summary]\n")
@@ -85,6 +86,8 @@ TEXTS = (
     Text("empty lines.csv", b"refused,1,15\n", b"\n"),
     Text("notes.csv", b"refused,1,7,50001\n", b"note,x\n"),
     Text("units.csv", b"refused,1,7,50001\n", b"unit,A,2\n"),
+    Text("travels.csv", b"refused,1,15\n", b"travel," + b"a" * 32 + b"," + b"b" * 32 + b"," + b" " * 10 + b"1\n"),
+    Text("lists.csv", b"refused,1,15\n", b"prefer" + (b"," + b"a" * 32) * 13 + b"\n"),
     Text("rows of ten fields.csv", b"refused,1,7,50001\n", b"note,,,,,,,,,x\n"),
     Text("rows of a thousand fields.csv", b"refused,1,15\n", b"note" + b",x" * 999 + b"\n"),
     Text("quotes.csv", b"refused,1,3,1\n", b'"'),
@@ -103,4 +106,10 @@ TEXTS = (
     Text("dots.toml", b"refused,0,60\n", b"a.", end=b"a = 1\n"),
     Text("tables.toml", b"refused,0,60\n", b"[[a]]\n"),
     Text("open text.toml", b"refused,0,60\n", b"a", front=b'plans = ["'),
+    Text("a million plans.toml", b"refused,0,62,1048568\n", b'"a",', front=b"plans = [", end=b'"a"]\nmeasures = ["loss"]\n',
+         megabytes=MEGABYTES_OF_A_STUDY),
+    Text("numbers.toml", b"refused,0,60\n", b"1,", front=b"plans = [", end=b"1]\n", megabytes=MEGABYTES_OF_A_STUDY),
+    Text("empty arrays.toml", b"refused,0,60\n", b"[],", front=b"plans = [", end=b"1]\n", megabytes=MEGABYTES_OF_A_STUDY),
+    Text("measures.toml", b"refused,0,60\n", b'"loss",', front=b'plans = ["a", "b"]\nmeasures = [', end=b'"loss"]\n',
+         megabytes=MEGABYTES_OF_A_STUDY),
 )

@@ -82,6 +82,8 @@ def output_of(name):
     match name:
         case "pipe":
             yield [], subprocess.PIPE
+        case "pipe, with a stack of 1 MB":
+            yield ["sh", "-c", 'ulimit -s 1024; exec "$@"', "sh"], subprocess.PIPE
         case "closed":
             yield ["sh", "-c", 'exec "$@" >&-', "sh"], None
         case "pipe without a reader" | "pipe closed early":
