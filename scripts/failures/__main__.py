@@ -28,6 +28,7 @@ from world import End, World
 # How many runs of a part have to have had a call that failed.
 FEWEST = {"memory": 2000, "threads": 100}
 LAST = 2**63
+MOST_SHOWN = 20
 STATUS = {"usage": 1, "refused": 2, "absent": 4, "unread": 5, "unwritten": 6, "no memory": 7}
 
 
@@ -67,6 +68,14 @@ def evenly(count, most):
     return sorted({1 + k * (count - 1) // (most - 1) for k in range(most)})
 
 
+def good_run(world, line):
+    """A run in which nothing fails: it writes a text of its own."""
+    good = world.run(line.split())
+    if good.status not in (0, 1, 2, 3) or not good.text:
+        sys.exit(f"failures: {line}: status {good.status} and {len(good.text)} bytes though nothing failed")
+    return good
+
+
 def hostile_texts(world):
     """Long texts that are refused, each within its memory and 1 MB of stack."""
     for text in TEXTS:
@@ -92,7 +101,7 @@ def odd_places(world):
 def failed_reads(world):
     """Opens and reads that fail. A file that vanishes between two opens is one that the later open does not find."""
     for line in READING_RUNS:
-        good, words = world.run(line.split()), line.split()
+        good, words = good_run(world, line), line.split()
         yield Try(f"{line}: a byte at a time", words, whole(good), "read 0 0 0 1", marks=True)
         for number in evenly(world.calls(line, "open"), 20):
             for error, status in ((errno.ENOENT, "absent"), (errno.EACCES, "unread"), (errno.EMFILE, "unread"),
@@ -108,7 +117,7 @@ def failed_reads(world):
 def failed_writes(world):
     """Writes that fail, by an error or by taking nothing: what the earlier ones took is all that is written."""
     for line in WRITING_RUNS:
-        good, words = world.run(line.split()), line.split()
+        good, words = good_run(world, line), line.split()
         yield Try(f"{line}: a byte at a time", words, whole(good), "write 0 0 0 1", marks=True)
         for most in (1, 7):
             for number in evenly(world.calls(line, "write", most), 60):
@@ -121,7 +130,7 @@ def failed_writes(world):
 def refused_threads(world):
     """Threads that cannot be started, each on its own and together with all later ones: the bytes are the same."""
     for line in THREAD_RUNS:
-        good = world.run(line.split())
+        good = good_run(world, line)
         for workers in (2, 4, 16):
             asked = f"{line} --workers {workers}"
             for number in evenly(world.calls(asked, "thread"), 24):
@@ -133,7 +142,7 @@ def refused_threads(world):
 def refused_memory(world):
     """Allocations that are refused, each on its own and together with all later ones."""
     for line, most in MEMORY_RUNS:
-        good, count = world.run(line.split()), world.calls(line, "memory")
+        good, count = good_run(world, line), world.calls(line, "memory")
         numbers = evenly(count, most)
         print(f"  {line or 'no words'}: {len(numbers)} of {count} allocations")
         for number in numbers:
@@ -162,6 +171,8 @@ class Tally:
         self.megabytes = max(self.megabytes, end.megabytes)
         if not one.is_right(end) or (one.marks and not end.marked):
             self.wrong += 1
+            if self.wrong > MOST_SHOWN:
+                return
             print(f"  WRONG {one.name}: status {end.status}, {len(end.text)} bytes {end.text[:60]!r}, {end.marked} calls marked, "
                   f"{end.seconds:.2f} s, {end.megabytes:.0f} MB")
 

@@ -15,6 +15,8 @@ FILES = {
     "queue.csv": "unit,A,3\natom,P,1,0,0,A\ntravel,P,P,300\nat,A,P,1000\nprefer,P,A\nline,infinite\n",
     "two.csv": "unit,A,3\nunit,B,3\natom,P,1,0,0,A\natom,Q,1,9,0,B\ntravel,P,P,60\ntravel,P,Q,300\ntravel,Q,P,300\n"
                "travel,Q,Q,60\nat,A,P,1000\nat,B,Q,1000\nprefer,P,A,B\nprefer,Q,B,A\n",
+    "wide.csv": "unit,A,300000\nunit,B,300000\nunit,C,300000\natom,P,1,0,0,A\ntravel,P,P,300\nat,A,P,1000\nat,B,P,1000\n"
+                "at,C,P,1000\nprefer,P,A,B,C\n",
     "wrong.csv": "Unit,A,2\n",
     "both.toml": 'plans = ["two.csv", "one.csv"]\nmeasures = ["loss"]\n',
     "twice.toml": 'plans = ["two.csv", "two.csv"]\nmeasures = ["loss"]\n',
@@ -31,7 +33,7 @@ MEMORY_RUNS = (
     ("solve queue.csv", 2000),
     ("compare both.toml", 2000),
     ("solve wrong.csv", 2000),
-    ("solve two.csv --width 2", 2000),
+    ("solve wide.csv --time-width 2", 2000),
     ("make 10 7", 400),
     (f"compare {STUDY}", 400),
     ("solve two.csv --workers 4", 400),
@@ -40,7 +42,7 @@ MEMORY_RUNS = (
     ("", 400),
 )
 READING_RUNS = ("solve two.csv", "solve queue.csv", "compare both.toml", "compare twice.toml", f"compare {STUDY}")
-WRITING_RUNS = ("solve two.csv", "compare both.toml", "make 2 7", "solve wrong.csv", "solve two.csv --width 2", "")
+WRITING_RUNS = ("solve two.csv", "compare both.toml", "make 2 7", "solve wrong.csv", "solve wide.csv --time-width 2", "")
 THREAD_RUNS = ("solve two.csv", f"solve {EIGHT}", "compare both.toml", f"compare {STUDY}")
 
 # Words, how the run ends, and what it writes.
