@@ -27,7 +27,8 @@ from world import End, World
 
 # How many runs of a part have to have had a call that failed.
 FEWEST = {"memory": 2000, "threads": 100}
-LAST = 2**63
+# The last number that fails, if it is above the first, and how the name of the try goes on.
+ONE_OR_ALL_LATER = ((0, ""), (2**63, " and none later"))
 MOST_SHOWN = 20
 STATUS = {"usage": 1, "refused": 2, "absent": 4, "unread": 5, "unwritten": 6, "no memory": 7}
 
@@ -134,9 +135,9 @@ def refused_threads(world):
         for workers in (2, 4, 16):
             asked = f"{line} --workers {workers}"
             for number in evenly(world.calls(asked, "thread"), 24):
-                for last in (number, LAST):
-                    yield Try(f"{asked}: threads {number} to {last} are refused", asked.split(), whole(good),
-                              f"thread {number} {last} {errno.EAGAIN} 0")
+                for last, more in ONE_OR_ALL_LATER:
+                    yield Try(f"{asked}: no thread {number}{more}", asked.split(), whole(good),
+                              f"thread {number} {max(number, last)} {errno.EAGAIN} 0")
 
 
 def refused_memory(world):
@@ -146,9 +147,9 @@ def refused_memory(world):
         numbers = evenly(count, most)
         print(f"  {line or 'no words'}: {len(numbers)} of {count} allocations")
         for number in numbers:
-            for last in (number, LAST):
-                yield Try(f"{line}: allocations {number} to {last} are refused", line.split(), whole_or_nothing(good),
-                          f"memory {number} {last} {errno.ENOMEM} 0", marks="--workers" not in line)
+            for last, more in ONE_OR_ALL_LATER:
+                yield Try(f"{line}: no allocation {number}{more}", line.split(), whole_or_nothing(good),
+                          f"memory {number} {max(number, last)} {errno.ENOMEM} 0", marks="--workers" not in line)
 
 
 PARTS = {"texts": hostile_texts, "places": odd_places, "reading": failed_reads, "writing": failed_writes,
