@@ -11,12 +11,16 @@ use worked_plans::{BETWEEN, BOTH_AT_ONE};
 #[test]
 fn texts_give_these_plans(rt: HostRuntime) -> Result<(), Fail> {
     for (pieces, wanted) in PLANS {
-        let text = text_of(rt.alloc(), pieces)?;
-        let plan = read_plan(rt.alloc(), text.as_bytes())?;
-        let found = description_of(&rt, rt.alloc(), &plan)?;
-        assert_eq!(rt; found.as_str(), wanted);
+        let found = plan_in_words(&rt, rt.alloc(), pieces)?;
+        assert_eq!(rt; found.as_str(), *wanted);
     }
     Ok(())
+}
+
+fn plan_in_words(rt: &impl Abort, alloc: Global, pieces: Pieces) -> Result<String, Fail> {
+    let text = text_of(alloc, pieces)?;
+    let plan = read_plan(alloc, text.as_bytes())?;
+    Ok(description_of(rt, alloc, &plan)?)
 }
 
 /// The settings of a plan, the time of its first trip, the rates of all calls and of all service, and its lists.
@@ -51,28 +55,12 @@ fn push_list(text: &mut String, lists: &Lists, atom: usize) -> Result<(), AllocE
 const WITHOUT_CALLS: &str =
     "unit,A,3\nunit,B,3\natom,P,1,0,0,A\natom,Q,0,200,0,B\natom,S,0,0,0,B\natom,T,0,0,0,B\ntravel,P,P,1\ntravel,P,Q,1\ntravel,P,S,1\ntravel,P,T,1\ntravel,Q,P,1\ntravel,Q,Q,1\ntravel,Q,S,1\ntravel,Q,T,1\ntravel,S,P,1\ntravel,S,Q,1\ntravel,S,S,1\ntravel,S,T,1\ntravel,T,P,1\ntravel,T,Q,1\ntravel,T,S,1\ntravel,T,T,1\nat,A,P,1000\nat,B,Q,1000\n";
 
-/// Texts, and the plans that they give: one plan in seven ways to write it, settings given and not given, rates up to the
+/// Texts, and the plans that they give: settings given and not given, rates up to the
 /// most that they may sum to, lists of records, and lists by distance, where units at one distance are told apart by the
 /// atom's own district.
-const PLANS: [(Pieces, &str); 25] = [
+const PLANS: &[(Pieces, &str)] = &[
     (
         &[UNIT, ATOM, TRIP, PLACE, LIST],
-        "Zero Given 3600, 300, 1 of 2, A",
-    ),
-    (
-        &[LIST, PLACE, TRIP, ATOM, UNIT],
-        "Zero Given 3600, 300, 1 of 2, A",
-    ),
-    (
-        &["\"unit\",A,\"2\"\n", ATOM, TRIP, PLACE, LIST],
-        "Zero Given 3600, 300, 1 of 2, A",
-    ),
-    (
-        &[" unit , A , 2 ,,,\n", ATOM, TRIP, PLACE, LIST],
-        "Zero Given 3600, 300, 1 of 2, A",
-    ),
-    (
-        &["unit,A,000000002\n", ATOM, TRIP, PLACE, LIST],
         "Zero Given 3600, 300, 1 of 2, A",
     ),
     (

@@ -1,41 +1,18 @@
-use hyper_model::{Line, Lists, Rule};
+use hyper_model::{Line, Lists, Plan, Rule};
 use plan_reader::{PlanRefusal, read_plan};
-use std::alloc::{AllocError, Global};
 use std::process::Abort;
 use std::test::Fail;
 use worked_plans::{HALF_LOAD, TWO_UNITS, grid, widest};
 
-/// A text of so many notes, then the plan of one unit, and a note that fills it to so many bytes.
-fn padded_text(alloc: Global, notes: u32, bytes: usize) -> Result<Vec<u8>, AllocError> {
-    let mut text = Vec::new(alloc);
-    for _ in 0..notes {
+#[test]
+fn a_record_too_many(rt: HostRuntime) -> Result<(), Fail> {
+    let mut text = Vec::new(rt.alloc());
+    for _ in 0..49_996u32 {
         text.extend_from_slice(b"note,x\n")?;
     }
     text.extend_from_slice(HALF_LOAD.as_bytes())?;
-    if text.len() < bytes {
-        text.extend_from_slice(b"note,")?;
-    }
-    for _ in text.len()..bytes {
-        text.push(b'x')?;
-    }
-    Ok(text)
-}
-
-/// The most bytes and the most records that a text may have, and why it may not have more.
-const PADDED: [(u32, usize, Option<PlanRefusal>); 5] = [
-    (0, 4_194_304, None),
-    (0, 4_194_305, Some(PlanRefusal::TooLong(4_194_305))),
-    (49_995, 0, None),
-    (49_996, 0, Some(PlanRefusal::TooManyRecords(50_001))),
-    (50_000, 0, Some(PlanRefusal::TooManyRecords(50_001))),
-];
-
-#[test]
-fn a_text_has_a_most_of_bytes_and_records(rt: HostRuntime) -> Result<(), Fail> {
-    for (notes, bytes, refusal) in PADDED {
-        let text = padded_text(rt.alloc(), notes, bytes)?;
-        assert_eq!(rt; read_plan(rt.alloc(), &text).err(), refusal);
-    }
+    let got = read_plan(rt.alloc(), &text).err();
+    assert_eq!(rt; got, Some(PlanRefusal::TooManyRecords(50_001)));
     Ok(())
 }
 
@@ -67,6 +44,11 @@ const WIDEST_LISTS: Ranked = &[
 #[test]
 fn the_plan_of_a_spreadsheet(rt: HostRuntime) -> Result<(), Fail> {
     let plan = read_plan(rt.alloc(), grid(rt.alloc())?.as_bytes())?;
+    check_spreadsheet(&rt, &plan);
+    Ok(())
+}
+
+fn check_spreadsheet(rt: &impl Abort, plan: &Plan) {
     assert!(rt; plan.line() == Line::Zero && plan.rule() == Rule::Modified);
     assert!(rt; plan.units() == 8 && plan.atoms() == 40);
     assert_eq!(rt;
@@ -76,18 +58,21 @@ fn the_plan_of_a_spreadsheet(rt: HostRuntime) -> Result<(), Fail> {
     assert_eq!(rt; plan.atom(39).district, 7);
     assert_eq!(rt; plan.travel(0, 39), 780);
     assert!(rt; plan.located(7, 23) == 600 && plan.located(7, 15) == 200);
-    check_lists(&rt, plan.lists(), GRID_LISTS);
-    Ok(())
+    check_lists(rt, plan.lists(), GRID_LISTS);
 }
 
 #[test]
 fn most_units_and_atoms(rt: HostRuntime) -> Result<(), Fail> {
     let plan = read_plan(rt.alloc(), widest(rt.alloc())?.as_bytes())?;
+    check_widest(&rt, &plan);
+    Ok(())
+}
+
+fn check_widest(rt: &impl Abort, plan: &Plan) {
     assert!(rt; plan.units() == 12 && plan.atoms() == 200);
     assert_eq!(rt; (plan.calls(), plan.service()), (200, 240));
     assert_eq!(rt; plan.travel(199, 198), 60);
-    check_lists(&rt, plan.lists(), WIDEST_LISTS);
-    Ok(())
+    check_lists(rt, plan.lists(), WIDEST_LISTS);
 }
 
 fn check_lists(rt: &impl Abort, lists: &Lists, wanted: Ranked) {

@@ -1,135 +1,41 @@
 use crate::pieces::*;
 use plan_reader::PlanRefusal::{self, *};
 use plan_reader::read_plan;
+use std::alloc::{AllocError, Global};
 use std::test::Fail;
-
-const ELEVEN_UNITS: &str =
-    "unit,U1,1\nunit,U2,1\nunit,U3,1\nunit,U4,1\nunit,U5,1\nunit,U6,1\nunit,U7,1\nunit,U8,1\nunit,U9,1\nunit,U10,1\nunit,U11,1\n";
 
 #[test]
 fn broken_texts_are_refused(rt: HostRuntime) -> Result<(), Fail> {
     for (pieces, refusal) in BROKEN {
-        let text = text_of(rt.alloc(), pieces)?;
-        let got = read_plan(rt.alloc(), text.as_bytes()).err();
-        assert_eq!(rt; got, Some(refusal));
+        assert_eq!(rt; refusal_of(rt.alloc(), pieces)?, Some(*refusal));
     }
     Ok(())
 }
 
-/// Texts, and why they give no plan: some of one unit and one atom, some that are cut or have no record,
-/// each refusal of a text of two units, and texts with two faults, of which the one that is looked for first stands last.
-const BROKEN: [(Pieces, PlanRefusal); 83] = [
-    (&["Unit,A,2\n", ATOM, TRIP, PLACE, LIST], UnknownKind(1)),
-    (&["unit,A,0\n", ATOM, TRIP, PLACE, LIST], BadNumber(1, 3)),
-    (
-        &["unit,A,0000000002\n", ATOM, TRIP, PLACE, LIST],
-        BadNumber(1, 3),
-    ),
+fn refusal_of(alloc: Global, pieces: Pieces) -> Result<Option<PlanRefusal>, AllocError> {
+    let text = text_of(alloc, pieces)?;
+    Ok(read_plan(alloc, text.as_bytes()).err())
+}
+
+/// Texts, and why they give no plan: those that no whole run shows, and those with two faults, of which the one that is
+/// looked for first stands last.
+const BROKEN: &[(Pieces, PlanRefusal)] = &[
     (
         &["unit,A,1000001\n", ATOM, TRIP, PLACE, LIST],
         BadNumber(1, 3),
     ),
-    (&["unit,\"A,2\"\n", ATOM, TRIP, PLACE, LIST], FieldCount(1)),
-    (
-        &["unit,\"A,B\",2\n", ATOM, TRIP, PLACE, LIST],
-        BadName(1, 2),
-    ),
-    (
-        &[
-            "unit,NNNNNNNNNNNNNNNNNNNNNNNNNNNNNNNNN,2\n",
-            ATOM,
-            TRIP,
-            PLACE,
-            LIST,
-        ],
-        BadName(1, 2),
-    ),
-    (
-        &[UNIT, ATOM, TRIP, PLACE, LIST, "unit,A,3\n"],
-        DuplicateUnit(6),
-    ),
-    (&[UNIT, ATOM, TRIP, PLACE, LIST, ATOM], DuplicateAtom(6)),
-    (
-        &[UNIT, ATOM, TRIP, PLACE, LIST, "line,zero\nline,zero\n"],
-        SettingTwice(7),
-    ),
-    (&[UNIT, ATOM, TRIP, PLACE, LIST, "version,3\n"], Version(6)),
-    (
-        &[UNIT, ATOM, TRIP, PLACE, LIST, "travel,P,P,1\n"],
-        DuplicateTravel(6),
-    ),
-    (
-        &[UNIT, ATOM, TRIP, PLACE, LIST, "at,A,P,1\n"],
-        DuplicateLocation(6),
-    ),
-    (
-        &[UNIT, ATOM, TRIP, PLACE, LIST, ELEVEN_UNITS, "unit,U12,1\n"],
-        TooManyUnits(17),
-    ),
-    (
-        &["unit,A,1\n", ATOM, TRIP, PLACE, LIST, "line,infinite\n"],
-        NotStable(1, 1),
-    ),
-    (&[], NoUnits),
-    (&["note,hello\n"], NoUnits),
-    (&[UNIT, "atom,P,1,0,"], FieldCount(2)),
-    (&[UNIT, ATOM, TRIP], LocationSum(1, 0)),
-    (&[UNIT, ATOM, TRIP, PLACE], MissingList(1)),
-    (
-        &[UNIT, "atom,P,1.5,0,0,A\n", TRIP, PLACE, LIST],
-        BadNumber(2, 3),
-    ),
-    (&[UNIT, "atom,P,0,0,0,A\n", TRIP, PLACE, LIST], NoCalls),
-    (
-        &["Unit,A,3\nunit,B,3\n", ATOMS, TRIPS, PLACES, LISTS],
-        UnknownKind(1),
-    ),
+    (&["unit,A,3\n"], NoAtoms),
     (
         &["unit,A\nunit,B,3\n", ATOMS, TRIPS, PLACES, LISTS],
         FieldCount(1),
-    ),
-    (
-        &["unit,A,0\nunit,B,3\n", ATOMS, TRIPS, PLACES, LISTS],
-        BadNumber(1, 3),
     ),
     (
         &[UNITS, ATOMS, TRIPS, PLACES, LISTS, "line,none\n"],
         BadName(13, 2),
     ),
     (
-        &[UNITS, ATOMS, TRIPS, PLACES, LISTS, "line,zero\nline,zero\n"],
-        SettingTwice(14),
-    ),
-    (
-        &[UNITS, ATOMS, TRIPS, PLACES, LISTS, "version,3\n"],
-        Version(13),
-    ),
-    (
-        &[UNITS, ATOMS, TRIPS, PLACES, LISTS, "unit,A,4\n"],
-        DuplicateUnit(13),
-    ),
-    (
-        &[UNITS, ATOMS, TRIPS, PLACES, LISTS, ELEVEN_UNITS],
-        TooManyUnits(23),
-    ),
-    (
-        &[UNITS, ATOMS, TRIPS, PLACES, LISTS, "atom,P,2,0,0,A\n"],
-        DuplicateAtom(13),
-    ),
-    (&["unit,A,3\n"], NoAtoms),
-    (
         &[UNITS, ATOMS, TRIPS, PLACES, LISTS, "at,A,X,1\n"],
         UnknownName(13, 3),
-    ),
-    (
-        &[
-            UNITS,
-            "atom,P,1,0,0,A\natom,Q,1,9,0,C\n",
-            TRIPS,
-            PLACES,
-            LISTS,
-        ],
-        UnknownName(4, 6),
     ),
     (
         &[
@@ -142,64 +48,8 @@ const BROKEN: [(Pieces, PlanRefusal); 83] = [
         NoCalls,
     ),
     (
-        &[
-            UNITS,
-            "atom,P,1000000,0,0,A\natom,Q,1,9,0,B\n",
-            TRIPS,
-            PLACES,
-            LISTS,
-        ],
-        RateSum(1_000_001),
-    ),
-    (
-        &["unit,A,1000000\nunit,B,1\n", ATOMS, TRIPS, PLACES, LISTS],
-        ServiceSum(1_000_001),
-    ),
-    (
-        &[UNITS, ATOMS, TRIPS, PLACES, LISTS, "travel,P,Q,1\n"],
-        DuplicateTravel(13),
-    ),
-    (
-        &[
-            UNITS,
-            ATOMS,
-            "travel,P,P,60\ntravel,P,Q,300\ntravel,Q,Q,60\n",
-            PLACES,
-            LISTS,
-        ],
-        MissingTravel(2, 1),
-    ),
-    (
-        &[UNITS, ATOMS, TRIPS, PLACES, LISTS, "at,A,P,1\n"],
-        DuplicateLocation(13),
-    ),
-    (
-        &[UNITS, ATOMS, TRIPS, "at,A,P,1000\nat,B,Q,999\n", LISTS],
-        LocationSum(2, 999),
-    ),
-    (
         &[UNITS, ATOMS, TRIPS, PLACES, LISTS, "at,B,P,1\n"],
         LocationSum(2, 1001),
-    ),
-    (
-        &[UNITS, ATOMS, TRIPS, PLACES, LISTS, "rule,strict\n"],
-        ListNotAsked(11),
-    ),
-    (
-        &[UNITS, ATOMS, TRIPS, PLACES, LISTS, "prefer,P,A,B\n"],
-        ListTwice(13),
-    ),
-    (
-        &[UNITS, ATOMS, TRIPS, PLACES, "prefer,P,A,B\n"],
-        MissingList(2),
-    ),
-    (
-        &[UNITS, ATOMS, TRIPS, PLACES, "prefer,P,A,A\nprefer,Q,B,A\n"],
-        ListNotWhole(1),
-    ),
-    (
-        &[UNITS, ATOMS, TRIPS, PLACES, "group,P,A,B\ngroup,Q,A,B\n"],
-        UnknownKind(11),
     ),
     (
         &[
@@ -211,17 +61,6 @@ const BROKEN: [(Pieces, PlanRefusal); 83] = [
             "group,P,A,B\ngroup,Q,A,B\n",
         ],
         UnknownKind(12),
-    ),
-    (
-        &[
-            "version,2\n",
-            UNITS,
-            ATOMS,
-            TRIPS,
-            PLACES,
-            "group,P,A,B\ngroup,Q,A,B\nprefer,P,A,B\n",
-        ],
-        ListTwice(14),
     ),
     (
         &[
@@ -430,15 +269,6 @@ const BROKEN: [(Pieces, PlanRefusal); 83] = [
         ListNotWhole(1),
     ),
 ];
-
-#[test]
-fn bytes_that_are_no_text(rt: HostRuntime) -> Result<(), Fail> {
-    let got = read_plan(rt.alloc(), b"unit,\xff,2\natom,P,1,0,0,A\n").err();
-    assert_eq!(rt; got, Some(NotUtf8(1)));
-    let got = read_plan(rt.alloc(), b"\xff,A,2\natom,P,1,0,0,A\n").err();
-    assert_eq!(rt; got, Some(UnknownKind(1)));
-    Ok(())
-}
 
 #[test]
 fn a_refusal_has_its_number_and_words(rt: HostRuntime) -> Result<(), Fail> {
