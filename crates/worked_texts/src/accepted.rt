@@ -213,3 +213,33 @@ const PLANS: &[(Pieces, &str)] = &[
         "Zero Strict 3600, 1, 1 of 6, AB AB AB AB",
     ),
 ];
+
+/// Records in no order, and an atom that has the name of a unit.
+const SHUFFLED: &str = "\
+atom,A,0,0,0,B
+at,B,Q,400
+unit,A,2
+travel,Q,A,3
+travel,A,A,1
+at,A,A,1000
+atom,Q,1,0,0,A
+unit,B,3
+travel,Q,Q,0
+at,B,A,600
+travel,A,Q,2
+rule,strict
+";
+
+#[test]
+fn tables_in_the_order_of_units_and_atoms(rt: HostRuntime) -> Result<(), Fail> {
+    let plan = read_plan(rt.alloc(), SHUFFLED.as_bytes())?;
+    check_tables(&rt, &plan);
+    Ok(())
+}
+
+fn check_tables(rt: &impl Abort, plan: &Plan) {
+    assert!(rt; plan.units() == 2 && plan.atoms() == 2);
+    assert!(rt; plan.unit(1).rate == 3 && plan.atom(0).district == 1);
+    assert!(rt; plan.travel(0, 1) == 2 && plan.travel(1, 0) == 3 && plan.travel(1, 1) == 0);
+    assert!(rt; plan.located(0, 1) == 0 && plan.located(1, 0) == 600 && plan.located(1, 1) == 400);
+}
