@@ -17,6 +17,9 @@ fn refusal_of(alloc: Global, pieces: Pieces) -> Result<Option<PlanRefusal>, Allo
     Ok(read_plan(alloc, text.as_bytes()).err())
 }
 
+const ELEVEN_UNITS: &str =
+    "unit,U1,1\nunit,U2,1\nunit,U3,1\nunit,U4,1\nunit,U5,1\nunit,U6,1\nunit,U7,1\nunit,U8,1\nunit,U9,1\nunit,U10,1\nunit,U11,1\n";
+
 /// Texts, and why they give no plan: those that no whole run shows, and those with two faults, of which the one that is
 /// looked for first stands last.
 const BROKEN: &[(Pieces, PlanRefusal)] = &[
@@ -28,6 +31,42 @@ const BROKEN: &[(Pieces, PlanRefusal)] = &[
     (
         &["unit,A\nunit,B,3\n", ATOMS, TRIPS, PLACES, LISTS],
         FieldCount(1),
+    ),
+    (
+        &["Unit,A,3\nunit,B,3\n", ATOMS, TRIPS, PLACES, LISTS],
+        UnknownKind(1),
+    ),
+    (
+        &["unit,A,0\nunit,B,3\n", ATOMS, TRIPS, PLACES, LISTS],
+        BadNumber(1, 3),
+    ),
+    (
+        &[UNITS, ATOMS, TRIPS, PLACES, LISTS, "line,zero\nline,zero\n"],
+        SettingTwice(14),
+    ),
+    (
+        &[UNITS, ATOMS, TRIPS, PLACES, LISTS, "version,3\n"],
+        Version(13),
+    ),
+    (
+        &[UNITS, ATOMS, TRIPS, PLACES, LISTS, "unit,A,4\n"],
+        DuplicateUnit(13),
+    ),
+    (
+        &[UNITS, ATOMS, TRIPS, PLACES, LISTS, ELEVEN_UNITS],
+        TooManyUnits(23),
+    ),
+    (
+        &[UNITS, ATOMS, TRIPS, PLACES, LISTS, "atom,P,2,0,0,A\n"],
+        DuplicateAtom(13),
+    ),
+    (
+        &[UNITS, ATOMS, TRIPS, PLACES, LISTS, "travel,P,Q,1\n"],
+        DuplicateTravel(13),
+    ),
+    (
+        &[UNITS, ATOMS, TRIPS, PLACES, LISTS, "at,A,P,1\n"],
+        DuplicateLocation(13),
     ),
     (
         &[UNITS, ATOMS, TRIPS, PLACES, LISTS, "line,none\n"],
