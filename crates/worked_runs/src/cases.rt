@@ -1,6 +1,6 @@
 use crate::shelves::{shelf_with, words_of};
 use hypercube_cli::{Outcome, hypercube, status};
-use outer_world::{SureShelf, SureSink};
+use outer_world::{MemoryShelf, MemorySink};
 use rate_matrix::{Gate, OpenGate};
 use std::alloc::{AllocError, Global};
 use std::process::Abort;
@@ -25,12 +25,18 @@ pub(crate) enum Text {
     Plain(&'static str),
     /// The base, a part of which is replaced.
     Changed(&'static str, &'static str, &'static [u8]),
+    /// So many bytes of the base.
+    Cut(&'static str, usize),
     /// The base, and lines after it.
     Longer(&'static str, &'static str),
+    /// The base, and so many rows after it, each with its number, from 1 on, between these two parts.
+    Counted(&'static str, &'static str, &'static str, u32),
     /// The base after so many notes.
     Noted(&'static str, usize),
     /// The base, and a note that makes it so many bytes longer.
     Filled(&'static str, usize),
+    /// So many times this part.
+    Repeated(&'static str, usize),
 }
 
 /// What is written.
@@ -44,18 +50,18 @@ pub(crate) enum Written {
     Lines(&'static [&'static str]),
 }
 
-/// Runs a case, and looks at what it writes and how it ends.
+/// How a case ends, after a look at its status and at what it writes.
 pub(crate) fn check<R: Abort + Threads + Sync>(
     rt: &R,
     alloc: Global,
     case: &Case,
-) -> Result<(), Fail> {
+) -> Result<Outcome, Fail> {
     let text = bytes_of(alloc, &case.text)?;
     let (got, bytes) = run(rt, alloc, case.line, &text, &OpenGate)?;
     assert_eq!(rt; status(&got), case.status, "{}", case.name);
     let written = from_utf8(&bytes)?;
     assert!(rt; is_as(written, &case.written), "{}: {written}", case.name);
-    Ok(())
+    Ok(got)
 }
 
 /// How a command line ends over a shelf with this text, and what it writes.
@@ -68,9 +74,26 @@ pub(crate) fn run<R: Threads + Sync, G: Gate + Sync>(
 ) -> Result<(Outcome, Vec<u8>), Fail> {
     let texts = shelf_with(alloc, text)?;
     let words = words_of(alloc, line)?;
-    let mut shelf = SureShelf::of(&texts, 65536);
-    let mut sink = SureSink::of(4096);
+    let mut shelf = MemoryShelf::of(&texts, 65536, &[]);
+    let mut sink = MemorySink::of(4096, &[]);
     let got = hypercube(rt, alloc, &words, &mut shelf, &mut sink, gate);
+    Ok((got, Vec::from_slice(alloc, sink.bytes())?))
+}
+
+/// The same, if the shelf gives ten bytes at a time, the sink takes a hundred, and their calls of these numbers fail.
+pub(crate) fn run_with_faults<R: Threads + Sync>(
+    rt: &R,
+    alloc: Global,
+    line: &str,
+    text: &str,
+    reads: &[u64],
+    writes: &[u64],
+) -> Result<(Outcome, Vec<u8>), Fail> {
+    let texts = shelf_with(alloc, text.as_bytes())?;
+    let words = words_of(alloc, line)?;
+    let mut shelf = MemoryShelf::of(&texts, 10, reads);
+    let mut sink = MemorySink::of(100, writes);
+    let got = hypercube(rt, alloc, &words, &mut shelf, &mut sink, &OpenGate);
     Ok((got, Vec::from_slice(alloc, sink.bytes())?))
 }
 
@@ -90,9 +113,18 @@ fn bytes_of(alloc: Global, text: &Text) -> Result<Vec<u8>, Fail> {
     Ok(match *text {
         Text::Plain(base) => Vec::from_slice(alloc, base.as_bytes())?,
         Text::Changed(base, old, new) => changed_text(alloc, base, old, new)?,
+        Text::Cut(base, bytes) => {
+            let front = base.as_bytes().get(..bytes).ok_or("too short")?;
+            Vec::from_slice(alloc, front)?
+        },
         Text::Longer(base, lines) => text_of_both(alloc, base.as_bytes(), lines.as_bytes())?,
-        Text::Noted(base, notes) => text_after_notes(alloc, base, notes)?,
+        Text::Counted(base, front, back, rows) => text_with_rows(alloc, base, front, back, rows)?,
+        Text::Noted(base, notes) => {
+            let front = repeated_text(alloc, "note,x\n", notes)?;
+            text_of_both(alloc, &front, base.as_bytes())?
+        },
         Text::Filled(base, bytes) => text_of_size(alloc, base, bytes)?,
+        Text::Repeated(part, times) => repeated_text(alloc, part, times)?,
     })
 }
 
@@ -109,12 +141,25 @@ fn text_of_both(alloc: Global, front: &[u8], back: &[u8]) -> Result<Vec<u8>, All
     Ok(text)
 }
 
-fn text_after_notes(alloc: Global, base: &str, notes: usize) -> Result<Vec<u8>, AllocError> {
-    let mut text = Vec::new(alloc);
-    for _ in 0..notes {
-        text.extend_from_slice(b"note,x\n")?;
+fn text_with_rows(
+    alloc: Global,
+    base: &str,
+    front: &str,
+    back: &str,
+    rows: u32,
+) -> Result<Vec<u8>, AllocError> {
+    let mut text = String::from_str(alloc, base)?;
+    for row in 0..rows {
+        write!(text, "{front}{}{back}", u64::from(row) + 1)?;
     }
-    text.extend_from_slice(base.as_bytes())?;
+    Vec::from_slice(alloc, text.as_bytes())
+}
+
+fn repeated_text(alloc: Global, part: &str, times: usize) -> Result<Vec<u8>, AllocError> {
+    let mut text = Vec::new(alloc);
+    for _ in 0..times {
+        text.extend_from_slice(part.as_bytes())?;
+    }
     Ok(text)
 }
 

@@ -1,7 +1,7 @@
 use crate::cases::Text::Plain;
 use crate::cases::Written::{self, Begins, Lines, Whole};
 use crate::cases::{Case, check};
-use crate::reports::{THIRD_LOAD_REPORT, THIRD_LOAD_SUMMARY};
+use crate::reports::{MADE_PLAN, THIRD_LOAD_REPORT, THIRD_LOAD_SUMMARY};
 use hypercube_cli::{Command, WordsEnd, read_words};
 use plan_maker::{MakeRefusal, make};
 use std::alloc::{AllocError, Global};
@@ -12,11 +12,11 @@ use worked_plans::THIRD_LOAD;
 fn command_lines_end_so(rt: HostRuntime) -> Result<(), Fail> {
     for (line, status, written) in ENDED {
         let case = Case {
-            name: line,
-            line,
+            name: *line,
+            line: *line,
             text: Plain(THIRD_LOAD),
-            status,
-            written,
+            status: *status,
+            written: *written,
         };
         check(&rt, rt.alloc(), &case)?;
     }
@@ -26,11 +26,11 @@ fn command_lines_end_so(rt: HostRuntime) -> Result<(), Fail> {
 /// A command line, the status of its end, and what is written.
 type Ended = (&'static str, u8, Written);
 
-const USAGE: &str = "\
+pub(crate) const USAGE: &str = "\
 usage: hypercube solve FILE | compare STUDY | make UNITS NUMBER [--width W] [--time-width W] [--workers N] [--summary]
 ";
 
-const ENDED: [Ended; 20] = [
+const ENDED: &[Ended] = &[
     ("solve a.csv", 0, Whole(THIRD_LOAD_REPORT)),
     (
         "--summary solve a.csv --width=2",
@@ -52,42 +52,37 @@ const ENDED: [Ended; 20] = [
     ("make 11 0", 2, Whole("refused,0,70\n")),
     ("make 2 4294967296", 2, Whole("refused,0,70\n")),
     ("make 11 999999999999999999", 2, Whole("refused,0,70\n")),
-    ("make 2 0", 0, Begins(MADE_HEAD)),
-    ("make 000000000000000002 0", 0, Begins(MADE_HEAD)),
+    ("make 2 0", 0, Whole(MADE_PLAN)),
+    ("make 000000000000000002 0", 0, Whole(MADE_PLAN)),
+    ("make -- 02 00", 0, Whole(MADE_PLAN)),
+    ("make 2 4294967295", 0, Begins(LAST_MADE_HEAD)),
     (
-        "make -- 02 00",
+        "make 02 4294967295",
         0,
-        Lines(&["travel,A1,A2,664", "travel,A8,A7,638", "at,U2,A4,300"]),
+        Lines(&["travel,A1,A2,686", "travel,A7,A8,556", "at,U2,A4,300"]),
     ),
 ];
 
-/// How a made plan of two units begins, and how it ends.
-const MADE_HEAD: &str = "\
+/// What `make 2 4294967295` writes before the trips.
+const LAST_MADE_HEAD: &str = "\
 version,1
 line,zero
 rule,modified
 period,3600
 unit,U1,20
 unit,U2,20
-atom,A1,3,8256,3708,U1
-atom,A2,2,5170,750,U2
-atom,A3,3,1945,3277,U1
-";
-
-const MADE_END: &str = "\
-travel,A8,A7,638
-travel,A8,A8,60
-at,U1,A1,700
-at,U1,A3,300
-at,U2,A2,700
-at,U2,A4,300
+atom,A1,2,2311,8835,U1
+atom,A2,4,7029,7284,U2
+atom,A3,2,7440,5474,U1
+atom,A4,4,2478,3457,U2
+atom,A5,1,1164,1014,U1
+atom,A6,1,6344,9429,U2
+atom,A7,4,9669,4641,U1
+atom,A8,4,7846,1499,U2
 ";
 
 #[test]
-fn made_plans_of_two_and_of_ten_units(rt: HostRuntime) -> Result<(), Fail> {
-    let text = make(rt.alloc(), 2, 0)?;
-    assert!(rt; text.ends_with(MADE_END.as_bytes()));
-    assert_eq!(rt; text.len(), 1391);
+fn made_plans_of_ten_units_and_of_one(rt: HostRuntime) -> Result<(), Fail> {
     assert_eq!(rt; make(rt.alloc(), 10, 7)?.len(), 31331);
     assert_eq!(rt; make(rt.alloc(), 1, 0).err(), Some(MakeRefusal::MakeRange));
     Ok(())

@@ -1,12 +1,11 @@
-ghost use Rattle.std.specs.Prelude.{◌≤◌};
-
-use crate::cases::run;
-use crate::reports::THIRD_LOAD_REPORT;
-use crate::shelves::{shelf_with, words_of};
+use crate::cases::{run, run_with_faults};
+use crate::commands::USAGE;
+use crate::reports::{HALF_LOAD_REPORT, MADE_PLAN};
+use crate::shelves::words_of;
 use crate::studies::{TWO_AND_HALF, TWO_AND_HALF_COMPARED};
 use hyper_model::Measure;
 use hypercube_cli::{Outcome, Refusal, hypercube};
-use outer_world::{FileShelf, MemoryShelf, MemorySink, StdoutSink, SureShelf, SureSink};
+use outer_world::{FileShelf, StdoutSink};
 use plan_compare::StudyRefusal;
 use plan_reader::PlanRefusal;
 use rate_matrix::OpenGate;
@@ -15,16 +14,128 @@ use std::fs;
 use std::process::Abort;
 use std::test::Fail;
 use std::thread::Threads;
-use worked_plans::{THIRD_LOAD, THREE_UNITS};
+use worked_plans::{HALF_LOAD, THIRD_LOAD, THREE_UNITS};
+
+/// A command line and its text; the calls of a shelf that gives ten bytes at a time, which are an opening, the pieces and
+/// the end of each text, and those of a sink that takes a hundred; and how the run ends if none of them fails.
+#[derive(Clone, Copy)]
+struct Command {
+    line: &'static str,
+    text: &'static str,
+    reads: u8,
+    writes: u8,
+    outcome: Outcome,
+    written: &'static str,
+}
+
+const COMMANDS: &[Command] = &[
+    Command {
+        line: "solve a.csv",
+        text: HALF_LOAD,
+        reads: 9,
+        writes: 4,
+        outcome: Outcome::Done,
+        written: HALF_LOAD_REPORT,
+    },
+    Command {
+        line: "compare s.toml",
+        text: TWO_AND_HALF,
+        reads: 35,
+        writes: 2,
+        outcome: Outcome::Done,
+        written: TWO_AND_HALF_COMPARED,
+    },
+    Command {
+        line: "make 2 0",
+        text: "",
+        reads: 0,
+        writes: 14,
+        outcome: Outcome::Done,
+        written: MADE_PLAN,
+    },
+    Command {
+        line: "solve a.csv",
+        text: "station,A\n",
+        reads: 3,
+        writes: 1,
+        outcome: Outcome::Refused(Refusal::Plan(1, PlanRefusal::UnknownKind(1))),
+        written: "refused,1,3,1\n",
+    },
+    Command {
+        line: "solve x.csv",
+        text: "",
+        reads: 1,
+        writes: 0,
+        outcome: Outcome::Absent(1),
+        written: "",
+    },
+    Command {
+        line: "solve",
+        text: "",
+        reads: 0,
+        writes: 2,
+        outcome: Outcome::Usage,
+        written: USAGE,
+    },
+];
+
+#[test]
+fn a_fault_at_each_call(rt: HostRuntime) -> Result<(), Fail> {
+    for command in COMMANDS {
+        for before in 0..36u8 {
+            check_reading(&rt, rt.alloc(), command, before)?;
+            check_writing(&rt, rt.alloc(), command, before)?;
+        }
+    }
+    Ok(())
+}
+
+/// The call after so many calls of the shelf fails.
+fn check_reading<R: Abort + Threads + Sync>(
+    rt: &R,
+    alloc: Global,
+    command: &Command,
+    before: u8,
+) -> Result<(), Fail> {
+    let fails = [u64::from(before) + 1];
+    let (got, bytes) = run_with_faults(rt, alloc, command.line, command.text, &fails, &[])?;
+    let (outcome, written) = if before < command.reads {
+        (Outcome::ReadFault, "")
+    } else {
+        (command.outcome, command.written)
+    };
+    assert_eq!(rt; got, outcome, "{} {before}", command.line);
+    assert_eq!(rt; bytes.as_slice(), written.as_bytes());
+    Ok(())
+}
+
+/// The call after so many calls of the sink fails.
+fn check_writing<R: Abort + Threads + Sync>(
+    rt: &R,
+    alloc: Global,
+    command: &Command,
+    before: u8,
+) -> Result<(), Fail> {
+    let fails = [u64::from(before) + 1];
+    let (got, bytes) = run_with_faults(rt, alloc, command.line, command.text, &[], &fails)?;
+    let (outcome, taken) = if before < command.writes {
+        (Outcome::WriteFault, 100 * usize::from(before))
+    } else {
+        (command.outcome, command.written.len())
+    };
+    assert_eq!(rt; got, outcome, "{} {before}", command.line);
+    assert_eq!(rt;
+        Some(bytes.as_slice()),
+        command.written.as_bytes().get(..taken)
+    );
+    Ok(())
+}
 
 /// A command line, its text, and how the run ends.
 type Ended = (&'static str, &'static str, Outcome);
 
 /// The times before the one that is too wide are narrow, so that the least width ends the run at the same one.
-const ENDED: [Ended; 10] = [
-    ("solve a.csv", THIRD_LOAD, Outcome::Done),
-    ("solve", "", Outcome::Usage),
-    ("solve x.csv", "", Outcome::Absent(1)),
+const ENDED: &[Ended] = &[
     ("compare x.toml", "", Outcome::Absent(0)),
     (
         "compare s.toml",
@@ -62,79 +173,7 @@ const ENDED: [Ended; 10] = [
 fn each_end_of_a_run(rt: HostRuntime) -> Result<(), Fail> {
     for (line, text, outcome) in ENDED {
         let (got, _) = run(&rt, rt.alloc(), line, text.as_bytes(), &OpenGate)?;
-        assert_eq!(rt; got, outcome, "{line}");
-    }
-    Ok(())
-}
-
-#[test]
-fn a_fault_of_each_reading(rt: HostRuntime) -> Result<(), Fail> {
-    check_readings(
-        &rt,
-        rt.alloc(),
-        "solve a.csv",
-        THIRD_LOAD,
-        10,
-        THIRD_LOAD_REPORT,
-    )?;
-    check_readings(
-        &rt,
-        rt.alloc(),
-        "compare s.toml",
-        TWO_AND_HALF,
-        1000,
-        TWO_AND_HALF_COMPARED,
-    )
-}
-
-/// The first nine calls of the shelf are an opening, pieces and the end of each text that is read: one text in pieces of
-/// ten bytes, or a study and its two plans.
-fn check_readings<R: Abort + Threads + Sync>(
-    rt: &R,
-    alloc: Global,
-    line: &str,
-    text: &str,
-    piece: usize,
-    written: &str,
-) -> Result<(), Fail>
-    requires { 1 ≤ piece }
-{
-    let texts = shelf_with(alloc, text.as_bytes())?;
-    let words = words_of(alloc, line)?;
-    for call in 1..11 {
-        let fails = [call];
-        let mut shelf = MemoryShelf::of(&texts, piece, &fails);
-        let mut sink = SureSink::of(1000);
-        let got = hypercube(rt, alloc, &words, &mut shelf, &mut sink, &OpenGate);
-        if call < 10 {
-            assert_eq!(rt; got, Outcome::ReadFault);
-            assert!(rt; sink.bytes().is_empty());
-        } else {
-            assert_eq!(rt; got, Outcome::Done);
-            assert_eq!(rt; sink.bytes(), written.as_bytes());
-        }
-    }
-    Ok(())
-}
-
-#[test]
-fn a_fault_of_each_writing(rt: HostRuntime) -> Result<(), Fail> {
-    let texts = shelf_with(rt.alloc(), THIRD_LOAD.as_bytes())?;
-    let words = words_of(rt.alloc(), "solve a.csv")?;
-    for call in 1..6 {
-        let mut shelf = SureShelf::of(&texts, 1000);
-        let fails = [call];
-        let mut sink = MemorySink::of(100, &fails);
-        let got = hypercube(&rt, rt.alloc(), &words, &mut shelf, &mut sink, &OpenGate);
-        let outcome = if call < 5 {
-            Outcome::WriteFault
-        } else {
-            Outcome::Done
-        };
-        assert_eq!(rt; got, outcome);
-        let taken = THIRD_LOAD_REPORT.len().min(100 * (call as usize - 1));
-        assert_eq!(rt; sink.bytes().len(), taken);
-        assert!(rt; THIRD_LOAD_REPORT.as_bytes().starts_with(sink.bytes()));
+        assert_eq!(rt; got, *outcome, "{line}");
     }
     Ok(())
 }

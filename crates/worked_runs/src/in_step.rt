@@ -62,21 +62,18 @@ impl Gate for InStep {
     }
 }
 
+/// Two workers go in step through the whole study. One solves a plan after the other, so a wait fails.
 #[test]
-fn two_plans_of_a_study_go_in_step(rt: HostRuntime) -> Result<(), Fail> {
-    let gate = InStep::of(100_000_000);
-    let (got, _) = run(&rt, rt.alloc(), "compare s.toml --workers 2", STUDY, &gate)?;
-    assert_eq!(rt; got, Outcome::Done);
-    assert!(rt; gate.had_both());
-    assert!(rt; !gate.has_failed());
-    Ok(())
-}
-
-#[test]
-fn one_worker_solves_one_plan_after_the_other(rt: HostRuntime) -> Result<(), Fail> {
-    let gate = InStep::of(1000);
-    let (got, _) = run(&rt, rt.alloc(), "compare s.toml --workers 1", STUDY, &gate)?;
-    assert_eq!(rt; got, Outcome::Done);
-    assert!(rt; gate.has_failed());
+fn plans_of_a_study_go_in_step(rt: HostRuntime) -> Result<(), Fail> {
+    for (line, looks, fails) in [
+        ("compare s.toml --workers 2", 100_000_000, false),
+        ("compare s.toml --workers 1", 1000, true),
+    ] {
+        let gate = InStep::of(looks);
+        let (got, _) = run(&rt, rt.alloc(), line, STUDY, &gate)?;
+        assert_eq!(rt; got, Outcome::Done);
+        assert!(rt; gate.had_both());
+        assert_eq!(rt; gate.has_failed(), fails, "{line}");
+    }
     Ok(())
 }

@@ -8,11 +8,11 @@ mod commands;
 #[cfg(test)]
 mod faults;
 #[cfg(test)]
+mod hostile;
+#[cfg(test)]
 mod in_step;
 #[cfg(test)]
 mod meeting;
-#[cfg(test)]
-mod refused;
 #[cfg(test)]
 mod reports;
 #[cfg(test)]

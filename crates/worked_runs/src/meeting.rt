@@ -57,22 +57,17 @@ impl Gate for Meeting {
     }
 }
 
+/// Two workers meet in one elimination. One does not meet itself.
 #[test]
-fn two_workers_meet_in_one_elimination(rt: HostRuntime) -> Result<(), Fail> {
-    let gate = Meeting::of(100_000_000);
-    let text = THREE_UNITS.as_bytes();
-    let (got, _) = run(&rt, rt.alloc(), "solve a.csv --workers 2", text, &gate)?;
-    assert_eq!(rt; got, Outcome::Done);
-    assert!(rt; gate.both_saw());
-    Ok(())
-}
-
-#[test]
-fn one_worker_does_not_meet_itself(rt: HostRuntime) -> Result<(), Fail> {
-    let gate = Meeting::of(1000);
-    let text = THREE_UNITS.as_bytes();
-    let (got, _) = run(&rt, rt.alloc(), "solve a.csv --workers 1", text, &gate)?;
-    assert_eq!(rt; got, Outcome::Done);
-    assert!(rt; !gate.both_saw());
+fn workers_of_one_elimination_meet(rt: HostRuntime) -> Result<(), Fail> {
+    for (line, looks, meet) in [
+        ("solve a.csv --workers 2", 100_000_000, true),
+        ("solve a.csv --workers 1", 1000, false),
+    ] {
+        let gate = Meeting::of(looks);
+        let (got, _) = run(&rt, rt.alloc(), line, THREE_UNITS.as_bytes(), &gate)?;
+        assert_eq!(rt; got, Outcome::Done);
+        assert_eq!(rt; gate.both_saw(), meet, "{line}");
+    }
     Ok(())
 }

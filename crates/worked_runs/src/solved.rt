@@ -1,4 +1,4 @@
-use crate::cases::Text::{Changed, Filled, Longer, Noted, Plain};
+use crate::cases::Text::{Changed, Longer, Plain};
 use crate::cases::Written::{Lines, Whole};
 use crate::cases::{Case, Text, Written, check};
 use crate::reports::*;
@@ -9,11 +9,11 @@ use worked_plans::*;
 fn plans_have_these_reports(rt: HostRuntime) -> Result<(), Fail> {
     for (name, line, text, written) in SOLVED {
         let case = Case {
-            name,
-            line,
-            text,
+            name: *name,
+            line: *line,
+            text: *text,
             status: 0,
-            written,
+            written: *written,
         };
         check(&rt, rt.alloc(), &case)?;
     }
@@ -23,47 +23,11 @@ fn plans_have_these_reports(rt: HostRuntime) -> Result<(), Fail> {
 /// What a run is about, its command line, the text of `a.csv`, and what is written.
 type Solved = (&'static str, &'static str, Text, Written);
 
-const SOLVED: [Solved; 28] = [
+const SOLVED: &[Solved] = &[
     (
         "one unit, half as many calls as services",
         "solve a.csv",
         Plain(HALF_LOAD),
-        Whole(HALF_LOAD_REPORT),
-    ),
-    (
-        "blanks around fields, and empty fields behind them",
-        "solve a.csv",
-        Changed(HALF_LOAD, "unit,A,2\n", b" unit , A , 2 ,,,\n"),
-        Whole(HALF_LOAD_REPORT),
-    ),
-    (
-        "fields in quotes",
-        "solve a.csv",
-        Changed(HALF_LOAD, "unit,A,2\n", b"\"unit\",A,\"2\"\n"),
-        Whole(HALF_LOAD_REPORT),
-    ),
-    (
-        "zeros in front of a number of nine digits",
-        "solve a.csv",
-        Changed(HALF_LOAD, "unit,A,2\n", b"unit,A,000000002\n"),
-        Whole(HALF_LOAD_REPORT),
-    ),
-    (
-        "the lines in reverse",
-        "solve a.csv",
-        Plain("prefer,P,A\nat,A,P,1000\ntravel,P,P,300\natom,P,1,0,0,A\nunit,A,2\n"),
-        Whole(HALF_LOAD_REPORT),
-    ),
-    (
-        "notes in front, up to the most records",
-        "solve a.csv",
-        Noted(HALF_LOAD, 49_995),
-        Whole(HALF_LOAD_REPORT),
-    ),
-    (
-        "a note that makes the most bytes",
-        "solve a.csv",
-        Filled(HALF_LOAD, 4_194_242),
         Whole(HALF_LOAD_REPORT),
     ),
     (

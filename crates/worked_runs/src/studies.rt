@@ -10,11 +10,11 @@ use std::test::Fail;
 fn studies_end_so(rt: HostRuntime) -> Result<(), Fail> {
     for (line, text, status, written) in STUDIES {
         let case = Case {
-            name: line,
-            line,
-            text,
-            status,
-            written,
+            name: *line,
+            line: *line,
+            text: *text,
+            status: *status,
+            written: *written,
         };
         check(&rt, rt.alloc(), &case)?;
     }
@@ -82,7 +82,7 @@ end
 
 /// Studies that are compared, those of another form, of unknown measures or of too few plans, and last those whose plans
 /// are refused or absent.
-const STUDIES: [Ended; 27] = [
+const STUDIES: &[Ended] = &[
     (
         "compare s.toml --workers 2",
         Plain(TWO_AND_HALF),

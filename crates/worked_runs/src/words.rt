@@ -1,4 +1,5 @@
 use crate::commands::read;
+use crate::words::Asked::*;
 use hypercube_cli::{Command, Name255, WordsEnd};
 use report_text::Widths;
 use std::alloc::{AllocError, Global};
@@ -10,99 +11,141 @@ fn name(rt: &impl Abort, alloc: Global, text: &str) -> Result<Name255, AllocErro
     Name255::of(alloc, text)
 }
 
-/// Arguments, the name of a text, the widths of shares and of times, and the workers.
-type Asked = (&'static str, &'static str, Option<u32>, Option<u32>, u32);
+/// What is asked for.
+#[derive(Clone, Copy)]
+enum Asked {
+    Solve,
+    Summary,
+    Compare,
+}
 
-const SOLVED: [Asked; 19] = [
-    ("solve a.csv", "a.csv", None, None, 1),
-    ("solve solve", "solve", None, None, 1),
-    ("solve a-b=c.csv", "a-b=c.csv", None, None, 1),
-    ("solve Übersicht.csv", "Übersicht.csv", None, None, 1),
-    ("solve -", "-", None, None, 1),
-    ("solve -- -x.csv", "-x.csv", None, None, 1),
-    ("-- solve a.csv", "a.csv", None, None, 1),
-    ("solve a.csv --", "a.csv", None, None, 1),
-    ("solve -- --", "--", None, None, 1),
-    ("solve -- --width=2", "--width=2", None, None, 1),
-    ("solve a.csv --width=2", "a.csv", Some(2), None, 1),
-    ("--width 02 solve a.csv", "a.csv", Some(2), None, 1),
-    ("solve --width=000000003 a.csv", "a.csv", Some(3), None, 1),
+/// What is asked for, the arguments, the name of a text, the widths of shares and of times, and the workers.
+type Row = (
+    Asked,
+    &'static str,
+    &'static str,
+    Option<u32>,
+    Option<u32>,
+    u32,
+);
+
+const ASKED: [Row; 25] = [
+    (Solve, "solve a.csv", "a.csv", None, None, 1),
+    (Solve, "solve solve", "solve", None, None, 1),
+    (Solve, "solve a-b=c.csv", "a-b=c.csv", None, None, 1),
+    (Solve, "solve Übersicht.csv", "Übersicht.csv", None, None, 1),
+    (Solve, "solve -", "-", None, None, 1),
+    (Solve, "solve -- -x.csv", "-x.csv", None, None, 1),
+    (Solve, "-- solve a.csv", "a.csv", None, None, 1),
+    (Solve, "solve a.csv --", "a.csv", None, None, 1),
+    (Solve, "solve -- --", "--", None, None, 1),
+    (Solve, "solve -- --width=2", "--width=2", None, None, 1),
+    (Solve, "solve a.csv --width=2", "a.csv", Some(2), None, 1),
+    (Solve, "--width 02 solve a.csv", "a.csv", Some(2), None, 1),
     (
+        Solve,
+        "solve --width=000000003 a.csv",
+        "a.csv",
+        Some(3),
+        None,
+        1,
+    ),
+    (
+        Solve,
         "solve --width 999999999 a.csv",
         "a.csv",
         Some(999_999_999),
         None,
         1,
     ),
-    ("solve a.csv --time-width=2", "a.csv", None, Some(2), 1),
-    ("solve --time-width 40 a.csv", "a.csv", None, Some(40), 1),
-    ("solve a.csv --workers 1", "a.csv", None, None, 1),
-    ("solve a.csv --workers=16", "a.csv", None, None, 16),
     (
+        Solve,
+        "solve a.csv --time-width=2",
+        "a.csv",
+        None,
+        Some(2),
+        1,
+    ),
+    (
+        Solve,
+        "solve --time-width 40 a.csv",
+        "a.csv",
+        None,
+        Some(40),
+        1,
+    ),
+    (Solve, "solve a.csv --workers 1", "a.csv", None, None, 1),
+    (Solve, "solve a.csv --workers=16", "a.csv", None, None, 16),
+    (
+        Solve,
         "--workers 3 solve --width=5 a.csv --time-width 7",
         "a.csv",
         Some(5),
         Some(7),
         3,
     ),
-];
-
-#[test]
-fn solve_with_its_options(rt: HostRuntime) -> Result<(), Fail> {
-    for (line, file, share, time, workers) in SOLVED {
-        let command = Command::Solve {
-            file: name(&rt, rt.alloc(), file)?,
-            widths: Widths { share, time },
-            workers,
-            summary: false,
-        };
-        assert_eq!(rt; read(rt.alloc(), line)?, Ok(command));
-    }
-    Ok(())
-}
-
-#[test]
-fn a_summary_asked_before_and_after(rt: HostRuntime) -> Result<(), Fail> {
-    for line in [
-        "--summary solve a.csv --workers 3",
-        "solve a.csv --workers=3 --summary --",
-    ] {
-        let command = Command::Solve {
-            file: name(&rt, rt.alloc(), "a.csv")?,
-            widths: Widths {
-                share: None,
-                time: None,
-            },
-            workers: 3,
-            summary: true,
-        };
-        assert_eq!(rt; read(rt.alloc(), line)?, Ok(command));
-    }
-    Ok(())
-}
-
-const COMPARED: [Asked; 4] = [
-    ("compare s.toml", "s.toml", None, None, 1),
-    ("--width 9 compare s.toml", "s.toml", Some(9), None, 1),
     (
+        Summary,
+        "--summary solve a.csv --workers 3",
+        "a.csv",
+        None,
+        None,
+        3,
+    ),
+    (
+        Summary,
+        "solve a.csv --workers=3 --summary --",
+        "a.csv",
+        None,
+        None,
+        3,
+    ),
+    (Compare, "compare s.toml", "s.toml", None, None, 1),
+    (
+        Compare,
+        "--width 9 compare s.toml",
+        "s.toml",
+        Some(9),
+        None,
+        1,
+    ),
+    (
+        Compare,
         "compare --time-width=8 -- s.toml",
         "s.toml",
         None,
         Some(8),
         1,
     ),
-    ("compare --workers=2 s.toml", "s.toml", None, None, 2),
+    (
+        Compare,
+        "compare --workers=2 s.toml",
+        "s.toml",
+        None,
+        None,
+        2,
+    ),
 ];
 
 #[test]
-fn compare_with_its_options(rt: HostRuntime) -> Result<(), Fail> {
-    for (line, study, share, time, workers) in COMPARED {
-        let command = Command::Compare {
-            study: name(&rt, rt.alloc(), study)?,
-            widths: Widths { share, time },
-            workers,
+fn commands_with_their_options(rt: HostRuntime) -> Result<(), Fail> {
+    for (asked, line, text, share, time, workers) in ASKED {
+        let name = name(&rt, rt.alloc(), text)?;
+        let widths = Widths { share, time };
+        let command = match asked {
+            Compare => Command::Compare {
+                study: name,
+                widths,
+                workers,
+            },
+            Solve | Summary => Command::Solve {
+                file: name,
+                widths,
+                workers,
+                summary: matches!(asked, Summary),
+            },
         };
-        assert_eq!(rt; read(rt.alloc(), line)?, Ok(command));
+        assert_eq!(rt; read(rt.alloc(), line)?, Ok(command), "{line}");
     }
     Ok(())
 }
