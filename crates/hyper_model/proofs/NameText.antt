@@ -1,10 +1,9 @@
 -- Which bytes are the text of a name.
-use Rattle.std.proofs.Common.{◌≡◌, ℕ, List, true, false, inl, inr, arith}
-use Rattle.std.specs.List.{list_all}
+use Rattle.std.proofs.Common.{◌≡◌, ℕ, List, false, inl, inr, arith}
 use Rattle.std.specs.Str.{IsUtf8, is_utf8}
 use Rattle.std.proofs.lemmas.Bool.{cases_Bool}
-use Rattle.std.proofs.lemmas.Str.{IsUtf8-from_is_utf8, is_utf8-from_IsUtf8}
-use Rattle.hyper_model.specs.Name.{is_name, is_short, may_stand}
+use Rattle.std.proofs.lemmas.Str.{IsUtf8-from_is_utf8}
+use Rattle.hyper_model.specs.Name.{is_name}
 
 -- what is no UTF-8 fails the test
 pub no_utf8 : (bytes : List ℕ) → (IsUtf8 bytes → ⊥) → is_utf8 bytes ≡ false
@@ -16,8 +15,3 @@ no_utf8 bytes none = elim (cases_Bool (is_utf8 bytes)) [
 -- what is no UTF-8 is no name
 pub no_text : (bytes : List ℕ) → (IsUtf8 bytes → ⊥) → is_name bytes ≡ false
 no_text bytes none = grind (arith, no_utf8 bytes none)
-
--- a text of a name's length and bytes is a name
-pub some_text : (bytes : List ℕ) → is_short bytes ≡ true → list_all may_stand bytes ≡ true → IsUtf8 bytes
-    → is_name bytes ≡ true
-some_text bytes short plain text = grind (arith, short, plain, is_utf8-from_IsUtf8 bytes text)

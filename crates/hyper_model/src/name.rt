@@ -1,8 +1,9 @@
-ghost use Rattle.std.specs.Prelude.{◌≡◌, ◌+◌, ◌<◌, ◌≤◌, ◌↔◌, ℕ, List, [], ◌∷◌, ◌++◌, true, false, length, vec_len, vec_capacity, IsTrue, IfOk, IfSome, IfNone, slice_get};
+ghost use Rattle.std.specs.Prelude.{◌≡◌, ◌<◌, ◌≤◌, ℕ, List, true, false, length, take, IsTrue, IfOk};
 ghost use Rattle.std.specs.List.{list_all};
 ghost use Rattle.std.specs.Result.{IsErrOf};
-ghost use Rattle.std.specs.String.{string_bytes};
+ghost use Rattle.std.specs.Str.{is_utf8};
 ghost use Rattle.hyper_model.specs.Name.{is_name, may_stand, is_short};
+ghost use Rattle.hyper_model.specs.declared.name.TheConstants.{MOST_NAME_BYTES};
 
 use std::alloc::{AllocError, Global};
 use std::fmt;
@@ -27,43 +28,48 @@ pub enum NameEnd {
 /// The name of a unit, of an atom or of a text.
 ///
 /// It has 1 to 32 bytes of UTF-8 without control codes, commas and double quotes, so that a
-/// record of comma-separated values can hold it as it is. Letters differ by case.
+/// record of comma-separated values can hold it as it is. Letters differ by case. It is kept
+/// without memory from an allocator, since a text may have hundreds of thousands of names.
 #[derive(Debug, Drop)]
 pub struct Name {
-    text: String,
+    bytes: [u8; MOST_NAME_BYTES],
+    len: u8,
 }
 
 impl Model for Name {
     ghost Value = { List ℕ };
 
-    ghost view = { λ a. string_bytes a.text };
+    ghost view = { λ a. take a.len a.bytes };
 
-    ghost invariant = { λ a. is_name (string_bytes a.text) ≡ true };
+    ghost invariant = { λ a. is_name (take a.len a.bytes) ≡ true × (a.len ≤ MOST_NAME_BYTES) };
 }
 
 impl Name {
     /// The name that these bytes are.
-    pub fn of(alloc: Global, bytes: &[u8]) -> Result<Name, NameEnd>
+    pub fn of(_alloc: Global, bytes: &[u8]) -> Result<Name, NameEnd>
         ensures name { IfOk result (λ name. name ≡ bytes.now) }
         ensures is_name { IfOk result (λ _. is_name bytes.now ≡ true) }
         ensures bad_name { IsErrOf result NameEnd.BadName → is_name bytes.now ≡ false }
         ensures no_memory { IsErrOf result NameEnd.NoMemory → is_name bytes.now ≡ true }
     {
-        let Some(text) = name_text(bytes) else {
-            return Err(NameEnd::BadName)
-        };
-        match String::from_str(alloc, text) {
-            Ok(text) => Ok(Name { text }),
-            Err(_) => Err(NameEnd::NoMemory),
+        if !is_name(bytes) {
+            return Err(NameEnd::BadName);
         }
+        let mut kept = [0; MOST_NAME_BYTES];
+        kept[..bytes.len()].copy_from_slice(bytes);
+        Ok(Name {
+            bytes: kept,
+            len: bytes.len() as u8,
+        })
     }
 
     /// The same name once more.
-    pub fn copied(&self, alloc: Global) -> Result<Name, AllocError>
+    pub fn copied(&self, _alloc: Global) -> Result<Name, AllocError>
         ensures { IfOk result (λ name. name ≡ self.now) }
     {
         Ok(Name {
-            text: String::from_str(alloc, self.text())?,
+            bytes: self.bytes,
+            len: self.len,
         })
     }
 
@@ -72,20 +78,26 @@ impl Name {
         ensures text { result.now ≡ self.now }
         ensures is_name { is_name result.now ≡ true }
     {
-        self.text.as_str()
+        match str::from_utf8(&self.bytes[..usize::from(self.len)]) {
+            Ok(text) => text,
+            Err(_) => "",
+        }
     }
 }
 
-fn name_text(bytes: &[u8]) -> Option<&str>
-    ensures some { IfSome result (λ text. (text.now ≡ bytes.now) × (is_name bytes.now ≡ true)) }
-    ensures none { IfNone result (is_name bytes.now ≡ false) }
+fn is_name(bytes: &[u8]) -> bool
+    ensures name { result ≡ is_name bytes.now }
+    ensures short { IsTrue result → length bytes.now ≤ MOST_NAME_BYTES }
 {
-    if !has_name_length(bytes) || !has_name_bytes(bytes) {
-        return None;
-    }
+    has_name_length(bytes) && has_name_bytes(bytes) && is_text(bytes)
+}
+
+fn is_text(bytes: &[u8]) -> bool
+    ensures { result ≡ is_utf8 bytes.now }
+{
     match str::from_utf8(bytes) {
-        Ok(text) => Some(text),
-        Err(_) => None,
+        Ok(_) => true,
+        Err(_) => false,
     }
 }
 
