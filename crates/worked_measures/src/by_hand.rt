@@ -21,11 +21,30 @@ pub(crate) fn measures(
 ) -> Result<Vec<Enclosed>, Fail> {
     let weights = weights_of(rt, alloc, masses)?;
     assert!(rt; has_each(plan, &weights));
-    let order = order_of(alloc, plan)?;
-    let mut found = loads(alloc, plan, &order, &weights)?;
-    let parts = Parts::of(alloc, plan, &order, &weights)?;
-    found.extend_from_slice(&answers(alloc, plan, &parts)?)?;
+    Ok(measures_by(alloc, plan, &weights)?)
+}
+
+fn measures_by(alloc: Global, plan: &Plan, weights: &Weights) -> Result<Vec<Enclosed>, AllocError>
+    requires { length weights.now.items ≡ places plan.now }
+{
+    let mut found = Vec::new(alloc);
+    push_measures(&mut found, alloc, plan, weights)?;
     Ok(found)
+}
+
+fn push_measures(
+    found: &mut Vec<Enclosed>,
+    alloc: Global,
+    plan: &Plan,
+    weights: &Weights,
+) -> Result<(), AllocError>
+    requires { length weights.now.items ≡ places plan.now }
+{
+    push_calls(found, plan, weights)?;
+    let order = order_of(alloc, plan)?;
+    push_all(found, workloads(alloc, plan, &order, weights))?;
+    let parts = Parts::of(alloc, plan, &order, weights)?;
+    push_answers(found, alloc, plan, &parts)
 }
 
 /// 2^52 for the first mass, and the others in its proportion.
@@ -60,37 +79,39 @@ fn order_of(alloc: Global, plan: &Plan) -> Result<Order, AllocError>
     Order::of(alloc, plan.units() as u8)
 }
 
-/// What becomes of the calls, and how busy the units are.
-fn loads(
-    alloc: Global,
-    plan: &Plan,
-    order: &Order,
-    weights: &Weights,
-) -> Result<Vec<Enclosed>, AllocError>
-    requires order { IsOrderOf plan.now order.now }
-    requires one_each { length weights.now.items ≡ places plan.now }
+/// What becomes of the calls.
+fn push_calls(found: &mut Vec<Enclosed>, plan: &Plan, weights: &Weights) -> Result<(), AllocError>
+    requires { length weights.now.items ≡ places plan.now }
 {
-    let mut found = Vec::new(alloc);
     found.push(loss_or_delay(plan, weights))?;
     match plan.line() {
-        Line::Zero => {}
+        Line::Zero => Ok(()),
         Line::Infinite => {
-            found.extend_from_slice(&[queue_length(plan, weights), mean_wait(plan, weights)])?;
+            found.extend_from_slice(&[queue_length(plan, weights), mean_wait(plan, weights)])
         }
     }
-    found.extend_from_slice(&workloads(alloc, plan, order, weights)?)?;
-    Ok(found)
 }
 
 /// Who answers whose calls, and how long the units travel.
-fn answers(alloc: Global, plan: &Plan, parts: &Parts) -> Result<Vec<Enclosed>, AllocError>
+fn push_answers(
+    found: &mut Vec<Enclosed>,
+    alloc: Global,
+    plan: &Plan,
+    parts: &Parts,
+) -> Result<(), AllocError>
     requires { AreSizedFor plan.now parts.now }
 {
-    let mut found = fractions(alloc, plan, parts)?;
-    found.extend_from_slice(&interdistrict(alloc, plan, parts)?)?;
+    push_all(found, fractions(alloc, plan, parts))?;
+    push_all(found, interdistrict(alloc, plan, parts))?;
     found.push(region_time(plan, parts))?;
-    found.extend_from_slice(&atom_times(alloc, plan, parts)?)?;
-    found.extend_from_slice(&unit_times(alloc, plan, parts)?)?;
-    found.extend_from_slice(&district_times(alloc, plan, parts)?)?;
-    Ok(found)
+    push_all(found, atom_times(alloc, plan, parts))?;
+    push_all(found, unit_times(alloc, plan, parts))?;
+    push_all(found, district_times(alloc, plan, parts))
+}
+
+fn push_all(
+    found: &mut Vec<Enclosed>,
+    more: Result<Vec<Enclosed>, AllocError>,
+) -> Result<(), AllocError> {
+    found.extend_from_slice(&more?)
 }

@@ -1,47 +1,57 @@
 use crate::by_hand::measures;
 use crate::plans::{PLANS, Solved};
-use hyper_model::{Enclosed, Plan};
+use hyper_model::{Enclosed, Enclosures, Plan};
 use plan_reader::read_plan;
 use plan_solver::enclose;
-use std::alloc::Global;
+use std::alloc::{AllocError, Global};
 use std::process::Abort;
 use std::test::Fail;
 
 #[test]
 fn worked_plans_have_these_measures(rt: HostRuntime) -> Result<(), Fail> {
     for solved in PLANS {
-        let plan = read_plan(rt.alloc(), solved.text.as_bytes())?;
-        check_solver(&rt, rt.alloc(), &plan, &solved)?;
-        check_masses(&rt, rt.alloc(), &plan, &solved)?;
+        check(&rt, rt.alloc(), solved)?;
     }
     Ok(())
 }
 
-fn check_solver(rt: &impl Abort, alloc: Global, plan: &Plan, solved: &Solved) -> Result<(), Fail> {
-    let found = enclose(alloc, plan)?;
-    assert_eq!(rt; found.len(), solved.ends.len(), "{}", solved.name);
+fn check(rt: &impl Abort, alloc: Global, solved: Solved) -> Result<(), Fail> {
+    let plan = read_plan(alloc, solved.text.as_bytes())?;
+    check_plan(rt, alloc, &plan, solved)
+}
+
+/// As the solver finds them, and from the masses if a hand found these.
+fn check_plan(rt: &impl Abort, alloc: Global, plan: &Plan, solved: Solved) -> Result<(), Fail> {
+    assert_eq!(rt; solver_text(alloc, plan)?.as_str(), solved.measures);
+    if !solved.masses.is_empty() {
+        let text = text_of(alloc, &measures(rt, alloc, plan, solved.masses)?)?;
+        assert_eq!(rt; text.as_str(), solved.measures);
+    }
+    Ok(())
+}
+
+fn solver_text(alloc: Global, plan: &Plan) -> Result<String, AllocError> {
+    let mut text = String::new(alloc);
+    push_found(&mut text, &enclose(alloc, plan)?)?;
+    Ok(text)
+}
+
+fn push_found(text: &mut String, found: &Enclosures) -> Result<(), AllocError> {
     for place in 0..found.len() {
-        check(rt, solved, place, found.get(place));
+        push_measure(text, found.get(place))?;
     }
     Ok(())
 }
 
-/// The same measures from the masses, if a hand found them.
-fn check_masses(rt: &impl Abort, alloc: Global, plan: &Plan, solved: &Solved) -> Result<(), Fail> {
-    if solved.masses.is_empty() {
-        return Ok(());
+fn text_of(alloc: Global, found: &[Enclosed]) -> Result<String, AllocError> {
+    let mut text = String::new(alloc);
+    for item in found {
+        push_measure(&mut text, *item)?;
     }
-    let found = measures(rt, alloc, plan, solved.masses)?;
-    assert_eq!(rt; found.len(), solved.ends.len(), "{}", solved.name);
-    for (place, item) in found.iter().enumerate() {
-        check(rt, solved, place, *item);
-    }
-    Ok(())
+    Ok(text)
 }
 
-fn check(rt: &impl Abort, solved: &Solved, place: usize, item: Enclosed) {
-    let measure = item.measure;
-    let found = (measure.word(), measure.subject(), item.found);
-    let wanted = solved.ends.get(place).copied();
-    assert_eq!(rt; Some(found), wanted, "{}", solved.name);
+fn push_measure(text: &mut String, item: Enclosed) -> Result<(), AllocError> {
+    let (word, subject, found) = (item.measure.word(), item.measure.subject(), item.found);
+    write!(text, "{word} {subject:?} {found:?}\n")
 }
