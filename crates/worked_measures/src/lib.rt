@@ -1,4 +1,4 @@
-//! Worked plans and the ends of all their measures, as the solver finds them and from solutions by hand: tests alone.
+//! Worked plans and the ends of all their measures, as the solver finds them and from solutions by hand: only tests.
 #![tactic(auto)]
 
 #[cfg(test)]
