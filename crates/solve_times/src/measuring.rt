@@ -20,7 +20,7 @@ pub(crate) fn measure(alloc: Global, plan: &Plan, weighed: &Weighed) -> Result<(
         let _waiting = queue_length(plan, weights);
         let _wait = mean_wait(plan, weights);
     }
-    let _busy = workloads(alloc, plan, order, weights)?;
+    workloads(alloc, plan, order, weights)?;
     measure_calls(alloc, plan, &Parts::of(alloc, plan, order, weights)?)
 }
 
@@ -28,11 +28,11 @@ pub(crate) fn measure(alloc: Global, plan: &Plan, weighed: &Weighed) -> Result<(
 fn measure_calls(alloc: Global, plan: &Plan, parts: &Parts) -> Result<(), AllocError>
     requires { AreSizedFor plan.now parts.now }
 {
-    let _sent = fractions(alloc, plan, parts)?;
-    let _crossed = interdistrict(alloc, plan, parts)?;
+    fractions(alloc, plan, parts)?;
+    interdistrict(alloc, plan, parts)?;
     let _region = region_time(plan, parts);
-    let _atoms = atom_times(alloc, plan, parts)?;
-    let _units = unit_times(alloc, plan, parts)?;
-    let _districts = district_times(alloc, plan, parts)?;
+    atom_times(alloc, plan, parts)?;
+    unit_times(alloc, plan, parts)?;
+    district_times(alloc, plan, parts)?;
     Ok(())
 }

@@ -46,10 +46,7 @@ pub(crate) fn solve<R: Threads + Sync + Clock>(
     let plan = read_plan(alloc, text)?;
     let reading = start.elapsed(rt)?.as_nanos();
     let (weighing, measuring) = weigh(rt, alloc, &plan, workers)?;
-    let found = enclose_with(rt, alloc, &plan, workers, &OpenGate, 0)?;
-    let start = Instant::now(rt)?;
-    let text = report(alloc, &plan, &found, ANY, false)?;
-    let writing = start.elapsed(rt)?.as_nanos();
+    let (text, writing) = write(rt, alloc, &plan, workers)?;
     let parts = Parts {
         reading,
         weighing,
@@ -57,6 +54,22 @@ pub(crate) fn solve<R: Threads + Sync + Clock>(
         writing,
     };
     Ok((text, parts))
+}
+
+// The report, and the nanoseconds of its writing.
+fn write<R: Threads + Sync + Clock>(
+    rt: &R,
+    alloc: Global,
+    plan: &Plan,
+    workers: u32,
+) -> Result<(Vec<u8>, u128), TimesRefusal>
+    requires some { 1 ≤ workers }
+    requires most { workers ≤ 16 }
+{
+    let found = enclose_with(rt, alloc, plan, workers, &OpenGate, 0)?;
+    let start = Instant::now(rt)?;
+    let text = report(alloc, plan, &found, ANY, false)?;
+    Ok((text, start.elapsed(rt)?.as_nanos()))
 }
 
 // The nanoseconds of the weights, and of the measures.

@@ -32,9 +32,8 @@ pub(crate) fn solve<R: Threads + Sync + Clock>(
     let start = Instant::now(rt)?;
     reduce_rows(rt, &mut m, &mut scratch, workers, &OpenGate, 0);
     let elimination = start.elapsed(rt)?.as_nanos();
-    let middle = Instant::now(rt)?;
     solve_back(&m, &mut weights);
-    let substitution = middle.elapsed(rt)?.as_nanos();
+    let substitution = start.elapsed(rt)?.as_nanos().saturating_sub(elimination);
     let solving = Solving {
         elimination,
         substitution,
