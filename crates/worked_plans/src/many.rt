@@ -1,5 +1,56 @@
+/// Six units, each at the atom of its number and at another, between what comes before these records and their lists.
+macro_rules! six_units {
+    ($before:literal, $lists:literal) => {
+        concat!(
+            $before,
+            "\
+at,M1,Z1,650
+at,M1,Z4,350
+at,M2,Z2,650
+at,M2,Z5,350
+at,M3,Z3,650
+at,M3,Z6,350
+at,M4,Z4,650
+at,M4,Z7,350
+at,M5,Z5,650
+at,M5,Z8,350
+at,M6,Z6,650
+at,M6,Z1,350
+",
+            $lists
+        )
+    };
+}
+
+/// The lists of seven units for the calls of nine atoms, after the records before them; and a minute for each trip from
+/// the atoms that are named.
+macro_rules! seven_units {
+    ($before:literal $(, $from:literal)*) => {
+        concat!(
+            $before,
+            "\
+prefer,Z1,M4,M1,M6,M7,M3,M2,M5
+prefer,Z2,M5,M1,M3,M7,M6,M2,M4
+prefer,Z3,M1,M5,M7,M4,M6,M2,M3
+prefer,Z4,M1,M7,M6,M2,M5,M3,M4
+prefer,Z5,M4,M6,M7,M5,M1,M3,M2
+prefer,Z6,M3,M1,M7,M5,M6,M2,M4
+prefer,Z7,M2,M7,M1,M5,M4,M6,M3
+prefer,Z8,M2,M6,M5,M7,M4,M1,M3
+prefer,Z9,M4,M6,M7,M1,M2,M3,M5
+"
+            $(,
+                "travel,", $from, ",Z1,60\ntravel,", $from, ",Z2,60\ntravel,", $from, ",Z3,60\ntravel,", $from,
+                ",Z4,60\ntravel,", $from, ",Z5,60\ntravel,", $from, ",Z6,60\ntravel,", $from, ",Z7,60\ntravel,",
+                $from, ",Z8,60\ntravel,", $from, ",Z9,60\n"
+            )*
+        )
+    };
+}
+
 /// Six units in groups of unequal size, with more calls than they can serve.
-pub const SIX_IN_GROUPS: &str = "\
+pub const SIX_IN_GROUPS: &str = six_units!(
+    "\
 version,2
 line,zero
 rule,given
@@ -82,18 +133,8 @@ travel,Z8,Z5,588
 travel,Z8,Z6,323
 travel,Z8,Z7,212
 travel,Z8,Z8,45
-at,M1,Z1,650
-at,M1,Z4,350
-at,M2,Z2,650
-at,M2,Z5,350
-at,M3,Z3,650
-at,M3,Z6,350
-at,M4,Z4,650
-at,M4,Z7,350
-at,M5,Z5,650
-at,M5,Z8,350
-at,M6,Z6,650
-at,M6,Z1,350
+",
+    "\
 group,Z1,M6,M3,M1,M2,M5
 group,Z1,M4
 prefer,Z2,M5,M2,M4,M3,M6,M1
@@ -106,10 +147,12 @@ prefer,Z6,M4,M6,M5,M1,M2,M3
 group,Z7,M2,M6
 group,Z7,M4,M3,M5,M1
 prefer,Z8,M6,M4,M3,M2,M1,M5
-";
+"
+);
 
 /// Six units in groups of unequal size, and calls wait.
-pub const SIX_WITH_A_QUEUE: &str = "\
+pub const SIX_WITH_A_QUEUE: &str = six_units!(
+    "\
 version,2
 line,infinite
 rule,given
@@ -192,18 +235,8 @@ travel,Z8,Z5,494
 travel,Z8,Z6,86
 travel,Z8,Z7,521
 travel,Z8,Z8,45
-at,M1,Z1,650
-at,M1,Z4,350
-at,M2,Z2,650
-at,M2,Z5,350
-at,M3,Z3,650
-at,M3,Z6,350
-at,M4,Z4,650
-at,M4,Z7,350
-at,M5,Z5,650
-at,M5,Z8,350
-at,M6,Z6,650
-at,M6,Z1,350
+",
+    "\
 group,Z1,M3
 group,Z1,M2,M4,M5,M6,M1
 prefer,Z2,M5,M6,M3,M1,M4,M2
@@ -216,10 +249,12 @@ prefer,Z6,M5,M1,M4,M2,M6,M3
 group,Z7,M4,M3,M6,M2,M5
 group,Z7,M1
 prefer,Z8,M1,M3,M4,M2,M6,M5
-";
+"
+);
 
 /// Seven unlike units, and to them four times as many calls as they can serve.
-pub const SEVEN_OVERLOADED: &str = "\
+pub const SEVEN_OVERLOADED: &str = seven_units!(
+    "\
 version,1
 line,zero
 rule,given
@@ -335,19 +370,12 @@ at,M6,Z6,650
 at,M6,Z9,350
 at,M7,Z7,650
 at,M7,Z1,350
-prefer,Z1,M4,M1,M6,M7,M3,M2,M5
-prefer,Z2,M5,M1,M3,M7,M6,M2,M4
-prefer,Z3,M1,M5,M7,M4,M6,M2,M3
-prefer,Z4,M1,M7,M6,M2,M5,M3,M4
-prefer,Z5,M4,M6,M7,M5,M1,M3,M2
-prefer,Z6,M3,M1,M7,M5,M6,M2,M4
-prefer,Z7,M2,M7,M1,M5,M4,M6,M3
-prefer,Z8,M2,M6,M5,M7,M4,M1,M3
-prefer,Z9,M4,M6,M7,M1,M2,M3,M5
-";
+"
+);
 
 /// Seven units, and to them so many calls that one is seldom free.
-pub const SEVEN_SWAMPED: &str = "\
+pub const SEVEN_SWAMPED: &str = seven_units!(
+    "\
 unit,M1,1
 unit,M2,2
 unit,M3,3
@@ -371,97 +399,17 @@ at,M4,Z4,1000
 at,M5,Z5,1000
 at,M6,Z6,1000
 at,M7,Z7,1000
-prefer,Z1,M4,M1,M6,M7,M3,M2,M5
-prefer,Z2,M5,M1,M3,M7,M6,M2,M4
-prefer,Z3,M1,M5,M7,M4,M6,M2,M3
-prefer,Z4,M1,M7,M6,M2,M5,M3,M4
-prefer,Z5,M4,M6,M7,M5,M1,M3,M2
-prefer,Z6,M3,M1,M7,M5,M6,M2,M4
-prefer,Z7,M2,M7,M1,M5,M4,M6,M3
-prefer,Z8,M2,M6,M5,M7,M4,M1,M3
-prefer,Z9,M4,M6,M7,M1,M2,M3,M5
-travel,Z1,Z1,60
-travel,Z1,Z2,60
-travel,Z1,Z3,60
-travel,Z1,Z4,60
-travel,Z1,Z5,60
-travel,Z1,Z6,60
-travel,Z1,Z7,60
-travel,Z1,Z8,60
-travel,Z1,Z9,60
-travel,Z2,Z1,60
-travel,Z2,Z2,60
-travel,Z2,Z3,60
-travel,Z2,Z4,60
-travel,Z2,Z5,60
-travel,Z2,Z6,60
-travel,Z2,Z7,60
-travel,Z2,Z8,60
-travel,Z2,Z9,60
-travel,Z3,Z1,60
-travel,Z3,Z2,60
-travel,Z3,Z3,60
-travel,Z3,Z4,60
-travel,Z3,Z5,60
-travel,Z3,Z6,60
-travel,Z3,Z7,60
-travel,Z3,Z8,60
-travel,Z3,Z9,60
-travel,Z4,Z1,60
-travel,Z4,Z2,60
-travel,Z4,Z3,60
-travel,Z4,Z4,60
-travel,Z4,Z5,60
-travel,Z4,Z6,60
-travel,Z4,Z7,60
-travel,Z4,Z8,60
-travel,Z4,Z9,60
-travel,Z5,Z1,60
-travel,Z5,Z2,60
-travel,Z5,Z3,60
-travel,Z5,Z4,60
-travel,Z5,Z5,60
-travel,Z5,Z6,60
-travel,Z5,Z7,60
-travel,Z5,Z8,60
-travel,Z5,Z9,60
-travel,Z6,Z1,60
-travel,Z6,Z2,60
-travel,Z6,Z3,60
-travel,Z6,Z4,60
-travel,Z6,Z5,60
-travel,Z6,Z6,60
-travel,Z6,Z7,60
-travel,Z6,Z8,60
-travel,Z6,Z9,60
-travel,Z7,Z1,60
-travel,Z7,Z2,60
-travel,Z7,Z3,60
-travel,Z7,Z4,60
-travel,Z7,Z5,60
-travel,Z7,Z6,60
-travel,Z7,Z7,60
-travel,Z7,Z8,60
-travel,Z7,Z9,60
-travel,Z8,Z1,60
-travel,Z8,Z2,60
-travel,Z8,Z3,60
-travel,Z8,Z4,60
-travel,Z8,Z5,60
-travel,Z8,Z6,60
-travel,Z8,Z7,60
-travel,Z8,Z8,60
-travel,Z8,Z9,60
-travel,Z9,Z1,60
-travel,Z9,Z2,60
-travel,Z9,Z3,60
-travel,Z9,Z4,60
-travel,Z9,Z5,60
-travel,Z9,Z6,60
-travel,Z9,Z7,60
-travel,Z9,Z8,60
-travel,Z9,Z9,60
-";
+",
+    "Z1",
+    "Z2",
+    "Z3",
+    "Z4",
+    "Z5",
+    "Z6",
+    "Z7",
+    "Z8",
+    "Z9"
+);
 
 /// Eleven units at one atom, which are sent in one order: the loss is Erlang's for eleven servers and six calls for
 /// each service.
