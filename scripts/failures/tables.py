@@ -90,6 +90,7 @@ TEXTS = (
     Text("units.csv", b"refused,1,7,50001\n", b"unit,A,2\n"),
     Text("travels.csv", b"refused,1,15\n", b"travel," + b"a" * 32 + b"," + b"b" * 32 + b"," + b" " * 10 + b"1\n"),
     Text("lists.csv", b"refused,1,15\n", b"prefer" + (b"," + b"a" * 32) * 13 + b"\n"),
+    Text("lists of short names.csv", b"refused,1,7,50001\n", b"prefer" + b",a" * 13 + b"\n"),
     Text("rows of ten fields.csv", b"refused,1,7,50001\n", b"note,,,,,,,,,x\n"),
     Text("rows of a thousand fields.csv", b"refused,1,15\n", b"note" + b",x" * 999 + b"\n"),
     Text("quotes.csv", b"refused,1,3,1\n", b'"'),
