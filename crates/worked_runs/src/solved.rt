@@ -9,11 +9,11 @@ use worked_plans::*;
 fn plans_have_these_reports(rt: HostRuntime) -> Result<(), Fail> {
     for (name, line, text, written) in SOLVED {
         let case = Case {
-            name: *name,
-            line: *line,
-            text: *text,
+            name,
+            line,
+            text,
             status: 0,
-            written: *written,
+            written,
         };
         check(&rt, rt.alloc(), &case)?;
     }
@@ -23,7 +23,7 @@ fn plans_have_these_reports(rt: HostRuntime) -> Result<(), Fail> {
 /// What a run is about, its command line, the text of `a.csv`, and what is written.
 type Solved = (&'static str, &'static str, Text, Written);
 
-const SOLVED: &[Solved] = &[
+const SOLVED: [Solved; 22] = [
     (
         "one unit, half as many calls as services",
         "solve a.csv",
