@@ -48,22 +48,39 @@ def graph_below(top):
     return found
 
 
-def height_of(graph, name, heights):
-    """How many crates stand above this one in the longest chain: those with more begin first."""
-    if name not in heights:
-        above = [high for high, below in graph.items() if name in below]
-        heights[name] = 1 + max((height_of(graph, high, heights) for high in above), default=0)
-    return heights[name]
+def sources_of(name):
+    """The files of a crate that a build reads."""
+    for folder in ("src", "specs", "proofs"):
+        yield from (path for path in sorted((CRATES / name / folder).rglob("*")) if path.suffix in (".rt", ".antt"))
+
+
+class Chains:
+    """How long the chains of crates are, in lines of their sources, which their proofs take about as long as."""
+
+    def __init__(self, graph):
+        self.lines = {name: sum(path.read_bytes().count(b"\n") for path in sources_of(name)) for name in graph}
+        self.below = graph
+        self.above = {name: [high for high in graph if name in graph[high]] for name in graph}
+        self.longest = max(self.up_from(name) for name in graph)
+
+    def up_from(self, name):
+        """Of the longest chain from this crate upward."""
+        return self.lines[name] + max(map(self.up_from, self.above[name]), default=0)
+
+    def down_from(self, name):
+        return self.lines[name] + max(map(self.down_from, self.below[name]), default=0)
+
+    def is_awaited(self, name):
+        """Whether one of the longest chains goes through this crate, so that the whole waits for it."""
+        return self.up_from(name) + self.down_from(name) - self.lines[name] > 0.8 * self.longest
 
 
 def sum_of_sources(names):
     """A checksum of all that a build reads."""
     total = hashlib.sha256((TOP / "crates.txt").read_bytes())
     for name in sorted(names):
-        for folder in ("src", "specs", "proofs"):
-            for path in sorted((CRATES / name / folder).rglob("*")):
-                if path.suffix in (".rt", ".antt"):
-                    total.update(str(path.relative_to(TOP)).encode() + b"\0" + path.read_bytes() + b"\0")
+        for path in sources_of(name):
+            total.update(str(path.relative_to(TOP)).encode() + b"\0" + path.read_bytes() + b"\0")
     return total.hexdigest()
 
 
@@ -82,12 +99,11 @@ def run_in(folder, words):
 
 
 def prove(name, is_awaited, copies):
-    """Proves a crate in one of the copies. One that the longest chain waits for has all processors, others what it leaves."""
+    """Proves a crate in one of the copies. One that the whole waits for goes before others, with two processors."""
     began = time.monotonic()
     copy = copies.get()
     try:
-        words = ["rt", "lib", "--jobs", str(os.cpu_count() or 1)] if is_awaited else ["nice", "rt", "lib", "--jobs", "1"]
-        done = run_in(copy / name, words)
+        done = run_in(copy / name, ["rt", "lib", "--jobs", "2"] if is_awaited else ["nice", "rt", "lib", "--jobs", "1"])
     finally:
         copies.put(copy)
     return name, done, time.monotonic() - began
@@ -101,16 +117,15 @@ def failed(name, done):
 
 def prove_side_by_side(graph, copies, processors):
     """Proves each crate once those below it are proved, those with the longest chain above them first."""
-    heights = {}
-    waiting = sorted(graph, key=lambda name: -height_of(graph, name, heights))
+    chains = Chains(graph)
+    waiting = sorted(graph, key=lambda name: -chains.up_from(name))
     proved, running = set(), set()
     with concurrent.futures.ThreadPoolExecutor(processors) as pool:
         while waiting or running:
             ready = [name for name in waiting if proved.issuperset(graph[name])][:processors - len(running)]
             for name in ready:
                 waiting.remove(name)
-                tallest = max(heights[left] for left in graph if left not in proved)
-                running.add(pool.submit(prove, name, heights[name] == tallest, copies))
+                running.add(pool.submit(prove, name, chains.is_awaited(name), copies))
             ended, running = concurrent.futures.wait(running, return_when=concurrent.futures.FIRST_COMPLETED)
             for name, done, seconds in (one.result() for one in ended):
                 if done.returncode:
