@@ -4,16 +4,14 @@ use Rattle.std.specs.Str.{bytes_eq}
 use Rattle.command_words.specs.Numbers.{number_in}
 use Rattle.command_words.specs.Options.{◌>>=◌, AreWorkers, options_of}
 use Rattle.command_words.specs.Arguments.{lists_of}
-use Rattle.command_words.specs.declared.command.TheConstants.{USAGE}
 use Rattle.command_words.specs.declared.command.Command.{Command}
 use Rattle.command_words.specs.declared.command.Command.TheVariants.{Solve, Compare, Make}
 use Rattle.command_words.specs.declared.command.WordsEnd.{WordsEnd}
 use Rattle.command_words.specs.declared.command.WordsEnd.TheVariants as end
 use Rattle.command_words.specs.declared.options.Setting.{Setting}
 
--- what is written if they give none
 abbrev pub usage_line : List ℕ
-usage_line = USAGE.now
+usage_line = codes "usage: hypercube solve FILE | compare STUDY | make UNITS NUMBER [--width W] [--time-width W] [--workers N] [--summary]\n"
 
 -- 1 to 255 bytes
 abbrev pub has_name_length : List ℕ → Bool

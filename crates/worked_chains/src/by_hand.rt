@@ -1,9 +1,14 @@
 use crate::cases::{
     HALVED_WEIGHTS, OPPOSITE_LEFT, OPPOSITE_RATES, OPPOSITE_WEIGHTS, QUEUE_WEIGHTS, THIRD_WEIGHTS,
 };
+use crate::chains::order_of;
 use crate::digests::{Ends, digest_of};
+use plan_reader::read_plan;
+use rate_matrix::{RateMatrix, WordChain};
 use std::alloc::{AllocError, Global};
+use std::process::Abort;
 use std::test::Fail;
+use worked_plans::TWO_UNITS;
 
 const FIRST: u64 = 1 << 52;
 
@@ -67,4 +72,24 @@ fn digest_of_exact(alloc: Global, counts: &[u64], unit: u64) -> Result<u64, Allo
         all.push((end, end))?;
     }
     Ok(digest_of(&all))
+}
+
+// Between two units with opposite lists, calls and services an hour from none busy, the first busy, the second and both.
+const OUTFLOWS: [u64; 4] = [2, 5, 5, 6];
+
+#[test]
+fn outflows_of_two_units(rt: HostRuntime) -> Result<(), Fail> {
+    let plan = read_plan(rt.alloc(), TWO_UNITS.as_bytes())?;
+    let order = order_of(rt.alloc(), &plan)?;
+    let chain = WordChain::of(&plan, &order);
+    has_outflows(&rt, &RateMatrix::dense(rt.alloc(), &chain)?);
+    has_outflows(&rt, &RateMatrix::packed(rt.alloc(), &chain)?);
+    Ok(())
+}
+
+fn has_outflows(rt: &impl Abort, m: &RateMatrix) {
+    assert_eq!(rt; (m.size(), m.scale()), (OUTFLOWS.len(), EIGHTH));
+    for state in 0..m.size() {
+        assert_eq!(rt; Some(&m.outflow(state)), OUTFLOWS.get(state));
+    }
 }
