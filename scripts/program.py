@@ -99,11 +99,12 @@ def run_in(folder, words):
 
 
 def prove(name, is_awaited, copies):
-    """Proves a crate in one of the copies. One that the whole waits for goes before others, with two processors."""
+    """Proves a crate in one of the copies. One that the whole waits for goes before others, on all processors."""
     began = time.monotonic()
+    command = ["rt", "lib", "--jobs", str(os.cpu_count() or 1)] if is_awaited else ["nice", "rt", "lib", "--jobs", "1"]
     copy = copies.get()
     try:
-        done = run_in(copy / name, ["rt", "lib", "--jobs", "2"] if is_awaited else ["nice", "rt", "lib", "--jobs", "1"])
+        done = run_in(copy / name, command)
     finally:
         copies.put(copy)
     return name, done, time.monotonic() - began
