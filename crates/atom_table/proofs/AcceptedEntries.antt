@@ -1,5 +1,5 @@
 -- What holds of units and atoms that are not refused: they are those of a plan that can be accepted.
-use Rattle.std.proofs.Common.{◌≡◌, ◌∙◌, ℕ, ◌+◌, ◌<◌, ◌≤◌, List, [], ◌∷◌, ◌++◌, length, get_or, true, false, refl, sym, arith}
+use Rattle.std.proofs.Common.{◌≡◌, ◌∙◌, ℕ, ◌<◌, ◌≤◌, List, [], ◌∷◌, ◌++◌, length, get_or, true, false, refl, sym, arith}
 use Rattle.std.specs.Prelude.{Bool, if◌then◌else◌, ◌==◌, nat_le, nat_lt, Option, Some, None, Ok, All}
 use Rattle.std.specs.Option.{option_to_list}
 use Rattle.std.proofs.lemmas.Bool.Decides.{nat_tests}

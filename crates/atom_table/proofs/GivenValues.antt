@@ -1,47 +1,18 @@
 -- A table is that of the values that were given, one by one.
-use Rattle.std.proofs.Common.{◌≡◌, ◌≢◌, ◌∙◌, ℕ, ◌+◌, ◌*◌, ◌<◌, List, [], ◌∷◌, ◌++◌, length, get_or, set, true, false, refl, sym, ap, subst, inl, inr, arith}
+use Rattle.std.proofs.Common.{◌≡◌, ◌≢◌, ◌∙◌, ℕ, ◌+◌, ◌*◌, ◌<◌, List, [], ◌∷◌, ◌++◌, length, set, true, false, refl, sym, ap, subst, arith}
 use Rattle.std.specs.Prelude.{All, Bool, if◌then◌else◌, ◌==◌, not, Option, Some, None, find, is_some, map, replicate, unwrap_or}
 use Rattle.std.specs.List.{range_with_len}
 use Rattle.std.specs.Option.{option_and_then, option_map, option_or, option_to_list}
-use Rattle.std.proofs.lemmas.Bool.{cases_eq}
 use Rattle.std.proofs.lemmas.Bool.Decides.{nat_tests}
-use Rattle.std.proofs.lemmas.List.{append-nil, ext_get_or, get_or-replicate, get_or-set_other, get_or-set_same, length-replicate, length-set}
+use Rattle.std.proofs.lemmas.List.{append-nil, get_or-replicate, length-replicate}
 use Rattle.std.proofs.lemmas.List.Elements.{All-head, All-tail}
 use Rattle.std.proofs.lemmas.List.Folds.{find-append}
-use Rattle.std.proofs.lemmas.List.FromFn.{get_or-map-range_with_len, length-map-range_with_len}
+use Rattle.std.proofs.lemmas.List.FromFn.{fill_by_all, length-map-range_with_len}
 use Rattle.hyper_model.specs.Grid.{cell, zero_grid}
 use Rattle.hyper_model.proofs.Grids.{place_within}
+use Rattle.hyper_model.proofs.ListPlaces.{listed_at, listed_set}
 use Rattle.atom_table.specs.Pairs.{Given, PairTable, given_for, has_value, is_known, pair_of, pair_table_of, table_of, twice, value_of, with_given, with_value}
 use Rattle.atom_table.proofs.FirstBelow.{find-same}
-
--- a list that has f k at each place k
-listed : {X : Type 0} (f : ℕ → X) (n : ℕ) (d : X) (xs : List X) → length xs ≡ n
-    → ((k : ℕ) → k < n → get_or xs k d ≡ f k) → xs ≡ map f (range_with_len 0 n)
-listed f n d xs size each =
-    let long = length-map-range_with_len f 0 n in
-    ext_get_or d xs (map f (range_with_len 0 n)) (size ∙ sym long)
-    (λ k lt. each k (omega arith) ∙ sym (get_or-map-range_with_len f 0 n k k d (omega arith) (omega arith)))
-
--- the value at place k
-listed_at : {X : Type 0} (f : ℕ → X) (n k : ℕ) (d : X) → k < n → get_or (map f (range_with_len 0 n)) k d ≡ f k
-listed_at f n k d lt = get_or-map-range_with_len f 0 n k k d lt (omega arith)
-
--- a value at place k, if g is f but for that
-pub listed_set : {X : Type 0} (f g : ℕ → X) (n k : ℕ) (x d : X) → k < n → g k ≡ x → ((i : ℕ) → i < n → i ≢ k → g i ≡ f i)
-    → set (map f (range_with_len 0 n)) k x ≡ map g (range_with_len 0 n)
-listed_set {X} f g n k x d lt here others =
-    let size : length (set (map f (range_with_len 0 n)) k x) ≡ n =
-    length-set (map f (range_with_len 0 n)) k x ∙ length-map-range_with_len f 0 n in
-    listed g n d (set (map f (range_with_len 0 n)) k x) size each
-  where
-    each : (i : ℕ) → i < n → get_or (set (map f (range_with_len 0 n)) k x) i d ≡ g i
-    each i h = elim (cases_eq i k) [
-      | inl e ↦
-          let inside : k < length (map f (range_with_len 0 n)) = omega (arith, length-map-range_with_len f 0 n) in
-          rw e (get_or-set_same (map f (range_with_len 0 n)) k x d inside ∙ sym here)
-      | inr ne ↦
-          get_or-set_other (map f (range_with_len 0 n)) k i x d ne ∙ listed_at f n i d h ∙ sym (others i h ne)
-    ]
 
 -- no value is given
 pub pair_table_of-none : (rows cols : ℕ) (known : List Bool) → known ≡ replicate (rows * cols) false
@@ -49,10 +20,10 @@ pub pair_table_of-none : (rows cols : ℕ) (known : List Bool) → known ≡ rep
 pair_table_of-none rows cols known is =
     let nought : ℕ = 0 in
     let cells : replicate (rows * cols) nought ≡ map (λ (pair : ℕ). nought) (range_with_len 0 (rows * cols)) =
-    listed (λ (pair : ℕ). nought) (rows * cols) nought (replicate (rows * cols) nought) (length-replicate (rows * cols) nought)
+    fill_by_all (λ (pair : ℕ). nought) (replicate (rows * cols) nought) (rows * cols) nought (length-replicate (rows * cols) nought)
     (λ k lt. get_or-replicate (rows * cols) k nought nought lt) in
     let none : replicate (rows * cols) false ≡ map (λ (pair : ℕ). false) (range_with_len 0 (rows * cols)) =
-    listed (λ (pair : ℕ). false) (rows * cols) false (replicate (rows * cols) false) (length-replicate (rows * cols) false)
+    fill_by_all (λ (pair : ℕ). false) (replicate (rows * cols) false) (rows * cols) false (length-replicate (rows * cols) false)
     (λ k lt. get_or-replicate (rows * cols) k false false lt) in
     rw (cells, is, none) refl
 

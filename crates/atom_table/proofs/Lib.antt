@@ -2,6 +2,7 @@
 pub mod AcceptedEntries
 pub mod FirstBelow
 pub mod GivenValues
+pub mod PairSteps
 pub mod NameLists
 pub mod OwnNames
 pub mod StepByStep

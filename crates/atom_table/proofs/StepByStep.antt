@@ -7,7 +7,7 @@ use Rattle.plan_text.specs.Steps.{◌>>=◌, unless_refused}
 use Rattle.plan_text.specs.declared.record.Record.{Record}
 use Rattle.plan_text.proofs.Over.{option_or-none}
 use Rattle.atom_table.specs.Entries.{Entries, atom_names, atoms_in, entries_in, unit_names, units_in}
-use Rattle.atom_table.specs.Refusals.{atom_records_refusal, entries_of, entries_refusal, names_refusal, none_refusal, sum_refusal, unit_records_refusal}
+use Rattle.atom_table.specs.Refusals.{atom_records_refusal, checks_refusal, entries_of, entries_refusal, names_refusal, none_refusal, sum_refusal, unit_records_refusal}
 use Rattle.atom_table.specs.declared.refusal.AtomRefusal.{AtomRefusal}
 
 -- another way to say a refusal, unless memory was wanting
@@ -48,35 +48,24 @@ module _ (records : List Record) where
     pub are_entries : record { units = units; atoms = atoms } ≡ entries_in records
     are_entries = rw (read.same_atoms, read.same_units) refl
 
-    pub entries_of-none : (e : AtomRefusal) → none_refusal units atoms ≡ Some e → entries_of records ≡ Err e
-    entries_of-none e h =
-        refused_with (record { units = units; atoms = atoms }) e are_entries (rw (read.unit_records, read.atom_records, h) refl)
-
-    pub entries_of-names : (e : AtomRefusal) → none_refusal units atoms ≡ None
-        → names_refusal (unit_names units) (atom_names atoms) records ≡ Some e → entries_of records ≡ Err e
-    entries_of-names e some h =
-        refused_with (record { units = units; atoms = atoms }) e are_entries (rw (read.unit_records, read.atom_records, some, h) refl)
-
-    pub entries_of-sums : (e : AtomRefusal) → none_refusal units atoms ≡ None
-        → names_refusal (unit_names units) (atom_names atoms) records ≡ None → sum_refusal units atoms ≡ Some e
+    pub entries_of-checks : (e : AtomRefusal) → checks_refusal records (record { units = units; atoms = atoms }) ≡ Some e
         → entries_of records ≡ Err e
-    entries_of-sums e some known h =
-        refused_with (record { units = units; atoms = atoms }) e are_entries
-        (rw (read.unit_records, read.atom_records, some, known, h) refl)
+    entries_of-checks e h =
+        refused_with (record { units = units; atoms = atoms }) e are_entries (rw (read.unit_records, read.atom_records) h)
 
     -- no step refuses
-    pub entries_refusal-none : none_refusal units atoms ≡ None → names_refusal (unit_names units) (atom_names atoms) records ≡ None
-        → sum_refusal units atoms ≡ None → entries_refusal records (entries_in records) ≡ None
-    entries_refusal-none some known h =
+    pub entries_refusal-none : checks_refusal records (record { units = units; atoms = atoms }) ≡ None
+        → entries_refusal records (entries_in records) ≡ None
+    entries_refusal-none h =
         let so : entries_refusal records (record { units = units; atoms = atoms }) ≡ None =
-        rw (read.unit_records, read.atom_records, some, known, h) refl in
+        rw (read.unit_records, read.atom_records) h in
         subst (λ (entries : Entries). entries_refusal records entries ≡ None) are_entries so
 
-    pub entries_of-read : none_refusal units atoms ≡ None → names_refusal (unit_names units) (atom_names atoms) records ≡ None
-        → sum_refusal units atoms ≡ None → entries_of records ≡ Ok (record { units = units; atoms = atoms })
+    pub entries_of-read : checks_refusal records (record { units = units; atoms = atoms }) ≡ None
+        → entries_of records ≡ Ok (record { units = units; atoms = atoms })
     unfolding entries_of
-    entries_of-read some known h =
-        let none = entries_refusal-none some known h in
+    entries_of-read h =
+        let none = entries_refusal-none h in
         ap {A = Option AtomRefusal} {B = Result Entries AtomRefusal} (λ refused. unless_refused refused >>= λ _. Ok (entries_in records)) none
         ∙ ap {A = Entries} {B = Result Entries AtomRefusal} (λ entries. Ok entries) (sym are_entries)
 

@@ -1,8 +1,10 @@
 -- Values that records give for pairs of places, such as those of an atom and another.
-use Rattle.std.specs.Prelude.{ℕ, ◌+◌, ◌*◌, ◌==◌, Bool, true, false, if◌then◌else◌, List, Option, Some, None, find, is_some, map, slice_index_or, slice_set, unwrap_or}
-use Rattle.std.specs.List.{range_with_len}
-use Rattle.std.specs.Option.{option_map}
+use Rattle.std.specs.Prelude.{ℕ, ◌+◌, ◌*◌, ◌==◌, Bool, true, false, if◌then◌else◌, List, [], Option, Some, None, find, is_some, map, slice_index_or, slice_set, unwrap_or}
+use Rattle.std.specs.List.{filter_map, range_with_len}
+use Rattle.std.specs.Option.{option_and_then, option_map}
 use Rattle.hyper_model.specs.Grid.{Grid}
+use Rattle.plan_text.specs.Steps.{first_over}
+use Rattle.plan_text.specs.declared.record.Record.{Record}
 
 -- the number of a pair: by its first place, and then by its second, of which there are `width`
 abbrev pub pair_of : ℕ → ℕ → ℕ → ℕ
@@ -30,6 +32,14 @@ has_value all pair = is_some (value_of all pair)
 -- the refusal of a value for a pair that has one already
 abbrev pub twice : {E : Type 0} → (ℕ → E) → (ℕ → Bool) → Given → Option E
 twice refusal has given = if has given.pair then Some (refusal given.at) else None
+
+-- a record after others, by what each gives: none of the others gives a value for the same pair
+abbrev pub pair_refusal : {E : Type 0} → (ℕ → E) → (Record → Option Given) → List Record → Record → Option E
+pair_refusal refusal gives before r = option_and_then (twice refusal (has_value (filter_map gives before))) (gives r)
+
+-- the first record that is refused so
+abbrev pub pairs_refusal : {E : Type 0} → (ℕ → E) → (Record → Option Given) → List Record → Option E
+pairs_refusal refusal gives records = first_over (pair_refusal refusal gives) [] records
 
 -- the table of so many rows and columns with these values, and 0 if none is given
 abbrev pub table_of : ℕ → ℕ → List Given → Grid

@@ -73,14 +73,18 @@ sum_refusal units atoms =
     else if nat_lt MOST_RATE_SUM (service_in units) then Some (ServiceSum (service_in units))
     else None
 
--- the first refusal: of a unit, of an atom, for lack of either, of a name, of the sums
+-- the first refusal of units and atoms together: for lack of either, of a name, of the sums
+abbrev pub checks_refusal : List Record → Entries → Option AtomRefusal
+checks_refusal records entries =
+    option_or (none_refusal entries.units entries.atoms)
+    (option_or (names_refusal (unit_names entries.units) (atom_names entries.atoms) records)
+    (sum_refusal entries.units entries.atoms))
+
+-- the first refusal: of a unit, of an atom, of all of them together
 abbrev pub entries_refusal : List Record → Entries → Option AtomRefusal
 entries_refusal records entries =
     option_or (unit_records_refusal records)
-    (option_or (atom_records_refusal entries.units records)
-    (option_or (none_refusal entries.units entries.atoms)
-    (option_or (names_refusal (unit_names entries.units) (atom_names entries.atoms) records)
-    (sum_refusal entries.units entries.atoms))))
+    (option_or (atom_records_refusal entries.units records) (checks_refusal records entries))
 
 -- the units and atoms of records that are not refused
 unfoldable pub entries_of : List Record → Result Entries AtomRefusal

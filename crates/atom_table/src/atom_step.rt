@@ -5,8 +5,7 @@ ghost use Rattle.atom_table.specs.Entries.{atom_in, atoms_in};
 ghost use Rattle.atom_table.specs.Refusals.{atom_records_refusal, atom_refusal};
 
 use crate::AtomRefusal;
-use crate::named_atoms::NamedAtoms;
-use crate::named_units::NamedUnits;
+use crate::named::{NamedAtoms, NamedUnits};
 use hyper_model::{Atom, MOST_ATOMS};
 use plan_text::Record;
 use std::alloc::Global;
@@ -58,7 +57,7 @@ fn take_atom(
         rate: *rate,
         x: *x,
         y: *y,
-        district: units.place_of(unit).unwrap_or(0),
+        district: units.place_of(unit).unwrap_or(0) as u8,
     };
     atoms.push(alloc, atom)?;
     Ok(())

@@ -4,8 +4,7 @@
 mod atom_step;
 mod name_index;
 mod name_step;
-mod named_atoms;
-mod named_units;
+mod named;
 mod pair_values;
 mod refusal;
 mod sharing;
@@ -13,6 +12,7 @@ mod sum_step;
 mod table;
 mod unit_step;
 
+pub use name_index::NameIndex;
 pub use pair_values::PairValues;
 pub use refusal::AtomRefusal;
 pub use table::AtomTable;

@@ -8,7 +8,7 @@ use std::marker::Model;
 
 /// Names in a row, no two of them equal, whose places are looked up by their hashes.
 #[derive(Drop)]
-pub(crate) struct NameIndex {
+pub struct NameIndex {
     names: IndexSet<Name>,
 }
 
@@ -22,7 +22,7 @@ impl Model for NameIndex {
 
 impl NameIndex {
     /// No names.
-    pub(crate) fn new(alloc: Global) -> NameIndex
+    pub fn new(alloc: Global) -> NameIndex
         ensures { result ≡ [] }
     {
         NameIndex {
@@ -31,7 +31,7 @@ impl NameIndex {
     }
 
     /// Puts a name after the others.
-    pub(crate) fn push(&mut self, name: Name) -> Result<(), AllocError>
+    pub fn push(&mut self, name: Name) -> Result<(), AllocError>
         requires { is_among self.old name ≡ false }
         ensures ok { OnOk result (self.new ≡ self.old ++ name ∷ []) }
         ensures err { OnErr result (self.new ≡ self.old) }
@@ -41,14 +41,14 @@ impl NameIndex {
     }
 
     /// Whether the name is there.
-    pub(crate) fn contains(&self, name: &Name) -> bool
+    pub fn contains(&self, name: &Name) -> bool
         ensures { result ≡ is_among self.now name.now }
     {
         self.names.contains(name)
     }
 
     /// The place of the name, counted from 0.
-    pub(crate) fn place_of(&self, name: &Name) -> Option<usize>
+    pub fn place_of(&self, name: &Name) -> Option<usize>
         ensures place { result ≡ place_of self.now name.now }
         ensures known { is_some result ≡ is_among self.now name.now }
         ensures within { IfSome result (λ place. place < length self.now) }

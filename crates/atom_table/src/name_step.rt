@@ -40,11 +40,8 @@ fn check_record(units: &NameIndex, atoms: &NameIndex, item: &Record) -> Result<(
             at,
             atom,
             units: list,
-        } => {
-            check_name(atoms, *at, 2, atom)?;
-            check_list(units, *at, list)
         }
-        Record::Group {
+        | Record::Group {
             at,
             atom,
             units: list,

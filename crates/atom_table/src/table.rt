@@ -1,16 +1,15 @@
 ghost use Rattle.std.specs.Prelude.{◌≡◌, ◌<◌, All, IfSome, is_some, length};
 ghost use Rattle.hyper_model.specs.Plans.{IsBetween};
 ghost use Rattle.hyper_model.specs.declared.parts.Atom.{Atom};
-ghost use Rattle.plan_text.specs.Steps.{Gives};
+ghost use Rattle.plan_text.specs.Steps.{Gives, Refuses};
 ghost use Rattle.atom_table.specs.Names.{is_among, place_of, place_or_zero};
 ghost use Rattle.atom_table.specs.Entries.{atom_names, unit_names};
-ghost use Rattle.atom_table.specs.Refusals.{entries_of};
+ghost use Rattle.atom_table.specs.Refusals.{checks_refusal, entries_of};
 
 use crate::AtomRefusal;
 use crate::atom_step::read_atoms;
 use crate::name_step::check_names;
-use crate::named_atoms::NamedAtoms;
-use crate::named_units::NamedUnits;
+use crate::named::{NamedAtoms, NamedUnits};
 use crate::sum_step::{check_some, check_sums};
 use crate::unit_step::read_units;
 use hyper_model::{Atoms, MOST_ATOMS, MOST_UNITS, Name, Units};
@@ -49,9 +48,7 @@ impl AtomTable {
     {
         let units = read_units(alloc, records)?;
         let atoms = read_atoms(alloc, &units, records)?;
-        check_some(units.list(), atoms.list())?;
-        check_names(units.names(), atoms.names(), records)?;
-        check_sums(units.list(), atoms.list())?;
+        check_entries(&units, &atoms, records)?;
         Ok(AtomTable { units, atoms })
     }
 
@@ -61,7 +58,10 @@ impl AtomTable {
         ensures known { is_some result ≡ is_among (unit_names self.now.units) name.now }
         ensures within { IfSome result (λ place. place < length self.now.units) }
     {
-        self.units.place_of(name)
+        match self.units.place_of(name) {
+            Some(place) => Some(place as u8),
+            None => None,
+        }
     }
 
     /// The place of the atom with this name, counted from 0: none exactly if no atom has it.
@@ -70,7 +70,10 @@ impl AtomTable {
         ensures known { is_some result ≡ is_among (atom_names self.now.atoms) name.now }
         ensures within { IfSome result (λ place. place < length self.now.atoms) }
     {
-        self.atoms.place_of(name)
+        match self.atoms.place_of(name) {
+            Some(place) => Some(place as u16),
+            None => None,
+        }
     }
 
     /// The place of the unit with this name, counted from 0, and 0 if no unit has it.
@@ -78,7 +81,7 @@ impl AtomTable {
         ensures place { result ≡ place_or_zero (unit_names self.now.units) name.now }
         ensures within { result < length self.now.units }
     {
-        usize::from(self.units.place_of(name).unwrap_or(0))
+        self.units.place_of(name).unwrap_or(0)
     }
 
     /// The place of the atom with this name, counted from 0, and 0 if no atom has it.
@@ -86,7 +89,7 @@ impl AtomTable {
         ensures place { result ≡ place_or_zero (atom_names self.now.atoms) name.now }
         ensures within { result < length self.now.atoms }
     {
-        usize::from(self.atoms.place_of(name).unwrap_or(0))
+        self.atoms.place_of(name).unwrap_or(0)
     }
 
     /// The units.
@@ -113,4 +116,17 @@ impl AtomTable {
     {
         (self.units.into_list(), self.atoms.into_list())
     }
+}
+
+/// Refuses the lack of units or of atoms, then the first name that none of them has, then sums of rates.
+fn check_entries(
+    units: &NamedUnits,
+    atoms: &NamedAtoms,
+    records: &[Record],
+) -> Result<(), AtomRefusal>
+    ensures { Refuses result (checks_refusal records.now (record { units = units.now; atoms = atoms.now })) }
+{
+    check_some(units.list(), atoms.list())?;
+    check_names(units.names(), atoms.names(), records)?;
+    check_sums(units.list(), atoms.list())
 }

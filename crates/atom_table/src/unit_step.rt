@@ -5,7 +5,7 @@ ghost use Rattle.atom_table.specs.Entries.{unit_in, units_in};
 ghost use Rattle.atom_table.specs.Refusals.{unit_records_refusal, unit_refusal};
 
 use crate::AtomRefusal;
-use crate::named_units::NamedUnits;
+use crate::named::NamedUnits;
 use hyper_model::{MOST_UNITS, Unit};
 use plan_text::Record;
 use std::alloc::Global;

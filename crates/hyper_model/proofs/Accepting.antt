@@ -1,21 +1,30 @@
 -- What the checks of a plan's parts find, said of the plan.
-use Rattle.std.proofs.Common.{◌≡◌, ℕ, ap, sym, subst, Some, List, length, drop}
-use Rattle.std.specs.Prelude.{slice_get}
-use Rattle.std.proofs.lemmas.Option.{get_or_from_slice_get}
-use Rattle.hyper_model.specs.declared.parts.Unit as declared_unit
-use Rattle.hyper_model.specs.declared.parts.Atom.{Atom}
+use Rattle.std.proofs.Common.{◌≡◌, ℕ, ◌<◌, ◌↔◌, ◌∙◌, ap, sym, subst, Some, List, [], length, drop}
+use Rattle.std.specs.Prelude.{slice_get, slice_index_or}
+use Rattle.std.proofs.lemmas.List.{get_or-map}
+use Rattle.std.proofs.lemmas.Option.{get_or_from_slice_get, slice_get_within}
 use Rattle.hyper_model.specs.declared.parts.PlanParts.{PlanParts}
 use Rattle.hyper_model.specs.Groups.{GroupLists, row_of, list_of, groups_in, IsGrouped}
-use Rattle.hyper_model.specs.Plans.{no_unit, no_atom, unit_name, atom_name, HasLists}
-use Rattle.hyper_model.specs.Acceptance.{IsFullList, HasListSizes, AreGrouped}
+use Rattle.hyper_model.specs.Plans.{HasLists}
+use Rattle.hyper_model.specs.Acceptance.{HaveOwnNames, name_at, IsFullList, HasListSizes, AreGrouped}
 use Rattle.hyper_model.proofs.Grouping.{grouped_from, from_grouped}
 
--- the name of the unit that was read
-pub unit_name_at : (p : PlanParts) (n : ℕ) (unit : declared_unit.Unit) → slice_get p.units n ≡ Some unit → unit_name p n ≡ unit.name
-unit_name_at p n unit h = ap (λ (u : declared_unit.Unit). u.name) (get_or_from_slice_get p.units n unit no_unit h)
+-- the name that was read at this place
+pub name_read : {A : Type 0} (name : A → List ℕ) (things : List A) (k : ℕ) (thing : A) → slice_get things k ≡ Some thing
+    → name_at name things k ≡ name thing
+name_read name things k thing h =
+    get_or-map name things k thing [] (slice_get_within things k thing h) ∙ ap name (get_or_from_slice_get things k thing thing h)
 
-pub atom_name_at : (p : PlanParts) (j : ℕ) (atom : Atom) → slice_get p.atoms j ≡ Some atom → atom_name p j ≡ atom.name
-atom_name_at p j atom h = ap (λ (a : Atom). a.name) (get_or_from_slice_get p.atoms j atom no_atom h)
+-- names are different whether they are taken from the list of names, or from the things, past whose last one stands `none`
+pub own_names : {A : Type 0} (name : A → List ℕ) (none : A) (things : List A) → HaveOwnNames (length things) (name_at name things)
+    ↔ HaveOwnNames (length things) (λ k. name (slice_index_or things k none))
+own_names name none things = (
+  λ own i j li lj e. own i j li lj (at i li ∙ e ∙ sym (at j lj)),
+  λ own i j li lj e. own i j li lj (sym (at i li) ∙ e ∙ at j lj),
+)
+  where
+    at : (k : ℕ) → k < length things → name_at name things k ≡ name (slice_index_or things k none)
+    at k lt = get_or-map name things k none [] lt
 
 -- the groups of an atom hold each unit once exactly if its list does
 pub grouped_at : (lists : GroupLists) (atom n : ℕ) (list : List ℕ) → n ≡ lists.units → list ≡ list_of lists atom

@@ -20,6 +20,8 @@ pub mod PlanLaws
 pub mod Masses
 pub mod Denominators
 pub mod OneValue
+pub mod ValueSteps
+pub mod MeasureValues
 pub mod WaitingPlaces
 pub mod Levels
 pub mod Worked

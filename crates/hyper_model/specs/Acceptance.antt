@@ -1,11 +1,15 @@
 -- Words of the checks that accept a plan's parts.
-use Rattle.std.specs.Prelude.{◌≡◌, ◌==◌, ℕ, ◌<◌, ◌≤◌, List, length, All, count_by}
+use Rattle.std.specs.Prelude.{◌≡◌, ◌==◌, ℕ, ◌<◌, ◌≤◌, List, [], length, map, slice_index_or, All, count_by}
 use Rattle.hyper_model.specs.declared.TheConstants.{MOST_RATE, MOST_TRAVEL, WHOLE_TIME}
 use Rattle.hyper_model.specs.declared.parts.PlanParts.{PlanParts}
 use Rattle.hyper_model.specs.Grid.{Grid, cell}
 use Rattle.hyper_model.specs.Groups.{GroupLists, groups_in, IsGrouped}
 use Rattle.hyper_model.specs.Sums.{sum_below}
 use Rattle.hyper_model.specs.Plans.{units, atoms, unit_at, atom_at, IsBetween, IsAtomWithin}
+
+-- the name of the thing at place k of a list
+abbrev pub name_at : {A : Type 0} → (A → List ℕ) → List A → ℕ → List ℕ
+name_at name things k = slice_index_or (map name things) k []
 
 -- the first n names are all different
 abbrev pub HaveOwnNames : ℕ → (ℕ → List ℕ) → Type 0

@@ -12,5 +12,7 @@ pub mod Tables
 pub mod Measures
 pub mod Laws
 pub mod Enclosures
+pub mod Values
+pub mod Separation
 pub mod Acceptance
 pub mod TravelTimes

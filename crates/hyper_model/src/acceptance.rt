@@ -1,9 +1,10 @@
 ghost use Rattle.std.specs.Prelude.{◌≡◌, ◌<◌, ◌≤◌, ◌↔◌, ℕ, IsTrue, length};
 ghost use Rattle.hyper_model.specs.declared.TheConstants.{MOST_RATE, MOST_PERIOD};
 ghost use Rattle.hyper_model.specs.Plans.{units, atoms, all_calls, all_service, unit_name, atom_name, IsBetween, IsAtomWithin, HasUnits, HasAtoms, HasLists, HasLocations, HasTravel, IsStable, IsAccepted};
-ghost use Rattle.hyper_model.specs.Acceptance.{HaveOwnNames, IsNamedBefore, HaveRates, AreAtomsWithin};
+ghost use Rattle.hyper_model.specs.Acceptance.{HaveOwnNames, HaveRates, AreAtomsWithin};
 
 use crate::acceptance_tables::{has_lists, has_locations, has_travel};
+use crate::own_names::have_own_names;
 use crate::{
     Atom, Line, MOST_ATOMS, MOST_COORDINATE, MOST_PERIOD, MOST_RATE, MOST_UNITS, PlanParts,
 };
@@ -49,25 +50,7 @@ fn has_units(parts: &PlanParts) -> bool
 fn has_unit_names(parts: &PlanParts) -> bool
     ensures { IsTrue result ↔ HaveOwnNames (units parts.now) (unit_name parts.now) }
 {
-    for n in 0..parts.units.len() {
-        if is_unit_named_before(parts, n) {
-            return false;
-        }
-    }
-    true
-}
-
-fn is_unit_named_before(parts: &PlanParts, n: usize) -> bool
-    requires { n < units parts.now }
-    ensures { IsTrue result ↔ IsNamedBefore n (unit_name parts.now) }
-{
-    let unit = parts.units.get(n);
-    for m in 0..n {
-        if parts.units.get(m).name == unit.name {
-            return true;
-        }
-    }
-    false
+    have_own_names(&parts.units)
 }
 
 fn has_unit_rates(parts: &PlanParts) -> bool
@@ -101,25 +84,7 @@ fn has_atoms(parts: &PlanParts) -> bool
 fn has_atom_names(parts: &PlanParts) -> bool
     ensures { IsTrue result ↔ HaveOwnNames (atoms parts.now) (atom_name parts.now) }
 {
-    for j in 0..parts.atoms.len() {
-        if is_atom_named_before(parts, j) {
-            return false;
-        }
-    }
-    true
-}
-
-fn is_atom_named_before(parts: &PlanParts, j: usize) -> bool
-    requires { j < atoms parts.now }
-    ensures { IsTrue result ↔ IsNamedBefore j (atom_name parts.now) }
-{
-    let atom = parts.atoms.get(j);
-    for i in 0..j {
-        if parts.atoms.get(i).name == atom.name {
-            return true;
-        }
-    }
-    false
+    have_own_names(&parts.atoms)
 }
 
 fn are_atoms_within(parts: &PlanParts) -> bool

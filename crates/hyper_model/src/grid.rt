@@ -32,6 +32,19 @@ impl Table {
         Ok(Table { rows, cols, cells })
     }
 
+    /// The same table once more.
+    pub fn copied(&self, alloc: Global) -> Result<Table, AllocError>
+        ensures { IfOk result (λ table. table ≡ self.now) }
+    {
+        let mut cells = Vec::new(alloc);
+        cells.extend_from_slice(&self.cells)?;
+        Ok(Table {
+            rows: self.rows,
+            cols: self.cols,
+            cells,
+        })
+    }
+
     /// How many rows there are.
     pub fn rows(&self) -> usize
         ensures rows { result ≡ self.now.rows }
@@ -44,6 +57,7 @@ impl Table {
     pub fn cols(&self) -> usize
         ensures cols { result ≡ self.now.cols }
         ensures most { result ≤ MOST_ATOMS }
+        ensures sized { IsSized self.now }
     {
         self.cols
     }

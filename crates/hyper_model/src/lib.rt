@@ -11,6 +11,7 @@ mod grid;
 mod kinds;
 mod laws;
 mod name;
+mod own_names;
 mod parts;
 mod place_list;
 mod plan_sums;
@@ -18,6 +19,7 @@ mod plans;
 mod preference;
 mod sharing;
 mod travel_time;
+mod values;
 
 pub use bounded::Bounded;
 pub use descriptions::{measure_named, scale};
@@ -26,11 +28,13 @@ pub use grid::Table;
 pub use kinds::{Enclosed, Found, Line, Measure, Rule, Subject};
 pub use laws::{law_accepted, law_existence, law_levels, law_positive, law_proportion, law_tail};
 pub use name::{MOST_NAME_BYTES, Name, NameEnd};
+pub use own_names::HasName;
 pub use parts::{Atom, Atoms, Names, PlanParts, Unit, Units};
 pub use place_list::push_each;
 pub use plans::Plan;
 pub use preference::Lists;
 pub use travel_time::mean_thousandths;
+pub use values::{Value, value_in};
 
 /// The most units that a plan has.
 pub const MOST_UNITS: usize = 12;

@@ -1,7 +1,8 @@
-ghost use Rattle.std.specs.Prelude.{◌≡◌};
+ghost use Rattle.std.specs.Prelude.{◌≡◌, IfOk};
 ghost use Rattle.hyper_model.specs.Plans.{calls_in, service_in};
 
 use crate::{Bounded, Line, Lists, MOST_ATOMS, MOST_UNITS, Name, Rule, Table};
+use std::alloc::{AllocError, Global};
 
 /// A unit of the fleet.
 #[derive(Debug, Drop)]
@@ -9,6 +10,18 @@ pub struct Unit {
     pub name: Name,
     /// How many calls it serves per period while it is busy, 1 to 1,000,000.
     pub rate: u32,
+}
+
+impl Unit {
+    /// The same unit once more.
+    pub fn copied(&self, alloc: Global) -> Result<Unit, AllocError>
+        ensures { IfOk result (λ unit. unit ≡ self.now) }
+    {
+        Ok(Unit {
+            name: self.name.copied(alloc)?,
+            rate: self.rate,
+        })
+    }
 }
 
 /// An atom: a small area that calls come from.
@@ -22,6 +35,21 @@ pub struct Atom {
     pub y: u32,
     /// The unit whose district it belongs to, counted from 0.
     pub district: u8,
+}
+
+impl Atom {
+    /// The same atom once more.
+    pub fn copied(&self, alloc: Global) -> Result<Atom, AllocError>
+        ensures { IfOk result (λ atom. atom ≡ self.now) }
+    {
+        Ok(Atom {
+            name: self.name.copied(alloc)?,
+            rate: self.rate,
+            x: self.x,
+            y: self.y,
+            district: self.district,
+        })
+    }
 }
 
 /// At most twelve names in a row.
@@ -44,6 +72,17 @@ impl Bounded<Unit, MOST_UNITS> {
         }
         total
     }
+
+    /// The same units once more.
+    pub fn copied(&self, alloc: Global) -> Result<Units, AllocError>
+        ensures { IfOk result (λ units. units ≡ self.now) }
+    {
+        let mut units = Units::of(alloc)?;
+        for n in 0..self.len() {
+            units.push(self.get(n).copied(alloc)?);
+        }
+        Ok(units)
+    }
 }
 
 impl Bounded<Atom, MOST_ATOMS> {
@@ -56,6 +95,17 @@ impl Bounded<Atom, MOST_ATOMS> {
             total += u64::from(self.get(j).rate);
         }
         total
+    }
+
+    /// The same atoms once more.
+    pub fn copied(&self, alloc: Global) -> Result<Atoms, AllocError>
+        ensures { IfOk result (λ atoms. atoms ≡ self.now) }
+    {
+        let mut atoms = Atoms::of(alloc)?;
+        for j in 0..self.len() {
+            atoms.push(self.get(j).copied(alloc)?);
+        }
+        Ok(atoms)
     }
 }
 

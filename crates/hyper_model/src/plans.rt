@@ -57,7 +57,7 @@ impl Plan {
     }
 
     /// The parts that were accepted.
-    pub(crate) fn parts(&self) -> &PlanParts
+    pub fn parts(&self) -> &PlanParts
         ensures parts { result.now ≡ self.now }
         ensures accepted { IsAccepted self.now }
     {

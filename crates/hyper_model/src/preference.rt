@@ -54,6 +54,18 @@ impl Lists {
         Ok(Lists { units, rows })
     }
 
+    /// The same lists once more.
+    pub fn copied(&self, alloc: Global) -> Result<Lists, AllocError>
+        ensures { IfOk result (λ lists. lists ≡ self.now) }
+    {
+        let mut rows = Vec::new(alloc);
+        rows.extend_from_slice(&self.rows)?;
+        Ok(Lists {
+            units: self.units,
+            rows,
+        })
+    }
+
     /// How many atoms have a list.
     pub fn atoms(&self) -> usize
         ensures atoms { result ≡ length self.now.rows }

@@ -1,8 +1,9 @@
 -- Refusals by their numbers.
-use Rattle.std.specs.Prelude.{ℕ}
+use Rattle.text_lines.specs.RefusalCodes.{plain}
+use Rattle.text_lines.specs.declared.refusal_code.RefusalCode.{RefusalCode}
 use Rattle.plan_maker.specs.declared.refusal.MakeRefusal.{MakeRefusal}
 use Rattle.plan_maker.specs.declared.refusal.MakeRefusal.TheVariants as refusal
 
-abbrev pub number_of : MakeRefusal → ℕ
-number_of refusal.MakeRange = 70
-number_of refusal.NoMemory = 0
+abbrev pub code_of : MakeRefusal → RefusalCode
+code_of refusal.MakeRange = plain 70
+code_of refusal.NoMemory = plain 0

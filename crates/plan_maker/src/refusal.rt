@@ -1,3 +1,4 @@
+use text_lines::RefusalCode;
 use thiserror::Error;
 
 /// Why no plan was made.
@@ -13,15 +14,15 @@ pub enum MakeRefusal {
 
 impl MakeRefusal {
     ghost use Rattle.std.specs.Prelude.{◌≡◌};
-    ghost use Rattle.plan_maker.specs.Refusals.{number_of};
+    ghost use Rattle.plan_maker.specs.Refusals.{code_of};
 
-    /// The refusal's number, and 0 for lack of memory.
-    pub fn number(&self) -> u32
-        ensures { result ≡ number_of self.now }
+    /// The number by which the refusal is reported. There are no arguments.
+    pub fn code(&self) -> RefusalCode
+        ensures { result ≡ code_of self.now }
     {
         match self {
-            MakeRefusal::MakeRange => 70,
-            MakeRefusal::NoMemory => 0,
+            MakeRefusal::MakeRange => RefusalCode::plain(70),
+            MakeRefusal::NoMemory => RefusalCode::plain(0),
         }
     }
 }

@@ -1,5 +1,7 @@
 -- Refusals of a plan: their numbers, their arguments, and those of the readers as such.
-use Rattle.std.specs.Prelude.{ℕ, List, [], ◌∷◌, Option, Some, None}
+use Rattle.std.specs.Prelude.{ℕ, List, Option}
+use Rattle.text_lines.specs.RefusalCodes.{of_one, of_two, plain}
+use Rattle.text_lines.specs.declared.refusal_code.RefusalCode.{RefusalCode}
 use Rattle.plan_text.specs.declared.refusal.TextRefusal.{TextRefusal}
 use Rattle.plan_text.specs.declared.refusal.TextRefusal.TheVariants as text
 use Rattle.atom_table.specs.declared.refusal.AtomRefusal.{AtomRefusal}
@@ -12,42 +14,38 @@ use Rattle.preference_rules.specs.declared.refusal.ListRefusal.{ListRefusal}
 use Rattle.preference_rules.specs.declared.refusal.ListRefusal.TheVariants as list
 use Rattle.plan_reader.specs.declared.refusal.PlanRefusal.{PlanRefusal}
 use Rattle.plan_reader.specs.declared.refusal.PlanRefusal.TheVariants as plan
-use Rattle.plan_reader.specs.declared.refusal.RefusalCode.{RefusalCode}
-
-abbrev pub code : ℕ → Option ℕ → Option ℕ → RefusalCode
-code number first second = record { number = number; arguments = first ∷ second ∷ [] }
 
 -- the number and the arguments by which a refusal is reported
 abbrev pub code_of : PlanRefusal → RefusalCode
-code_of (plan.NotUtf8 row) = code 1 (Some row) None
-code_of (plan.TooLong bytes) = code 2 (Some bytes) None
-code_of (plan.UnknownKind row) = code 3 (Some row) None
-code_of (plan.FieldCount row) = code 4 (Some row) None
-code_of (plan.BadNumber row field) = code 5 (Some row) (Some field)
-code_of (plan.BadName row field) = code 6 (Some row) (Some field)
-code_of (plan.TooManyRecords row) = code 7 (Some row) None
-code_of (plan.DuplicateAtom row) = code 10 (Some row) None
-code_of (plan.DuplicateUnit row) = code 11 (Some row) None
-code_of (plan.TooManyAtoms row) = code 12 (Some row) None
-code_of (plan.TooManyUnits row) = code 13 (Some row) None
-code_of (plan.UnknownName row field) = code 14 (Some row) (Some field)
-code_of plan.NoUnits = code 15 None None
-code_of plan.NoAtoms = code 16 None None
-code_of plan.NoCalls = code 17 None None
-code_of (plan.RateSum sum) = code 18 (Some sum) None
-code_of (plan.ServiceSum sum) = code 19 (Some sum) None
-code_of (plan.DuplicateTravel row) = code 20 (Some row) None
-code_of (plan.MissingTravel origin target) = code 21 (Some origin) (Some target)
-code_of (plan.DuplicateLocation row) = code 30 (Some row) None
-code_of (plan.LocationSum unit sum) = code 31 (Some unit) (Some sum)
-code_of (plan.MissingList atom) = code 40 (Some atom) None
-code_of (plan.ListNotWhole atom) = code 41 (Some atom) None
-code_of (plan.ListNotAsked row) = code 42 (Some row) None
-code_of (plan.ListTwice row) = code 43 (Some row) None
-code_of (plan.Version row) = code 50 (Some row) None
-code_of (plan.SettingTwice row) = code 51 (Some row) None
-code_of (plan.NotStable calls service) = code 52 (Some calls) (Some service)
-code_of plan.NoMemory = code 0 None None
+code_of (plan.NotUtf8 row) = of_one 1 row
+code_of (plan.TooLong bytes) = of_one 2 bytes
+code_of (plan.UnknownKind row) = of_one 3 row
+code_of (plan.FieldCount row) = of_one 4 row
+code_of (plan.BadNumber row field) = of_two 5 row field
+code_of (plan.BadName row field) = of_two 6 row field
+code_of (plan.TooManyRecords row) = of_one 7 row
+code_of (plan.DuplicateAtom row) = of_one 10 row
+code_of (plan.DuplicateUnit row) = of_one 11 row
+code_of (plan.TooManyAtoms row) = of_one 12 row
+code_of (plan.TooManyUnits row) = of_one 13 row
+code_of (plan.UnknownName row field) = of_two 14 row field
+code_of plan.NoUnits = plain 15
+code_of plan.NoAtoms = plain 16
+code_of plan.NoCalls = plain 17
+code_of (plan.RateSum sum) = of_one 18 sum
+code_of (plan.ServiceSum sum) = of_one 19 sum
+code_of (plan.DuplicateTravel row) = of_one 20 row
+code_of (plan.MissingTravel origin target) = of_two 21 origin target
+code_of (plan.DuplicateLocation row) = of_one 30 row
+code_of (plan.LocationSum unit sum) = of_two 31 unit sum
+code_of (plan.MissingList atom) = of_one 40 atom
+code_of (plan.ListNotWhole atom) = of_one 41 atom
+code_of (plan.ListNotAsked row) = of_one 42 row
+code_of (plan.ListTwice row) = of_one 43 row
+code_of (plan.Version row) = of_one 50 row
+code_of (plan.SettingTwice row) = of_one 51 row
+code_of (plan.NotStable calls service) = of_two 52 calls service
+code_of plan.NoMemory = plain 0
 
 abbrev pub number_of : PlanRefusal → ℕ
 number_of r = (code_of r).number

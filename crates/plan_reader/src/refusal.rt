@@ -1,9 +1,9 @@
 ghost use Rattle.std.specs.Prelude.{◌≡◌};
-ghost use Rattle.plan_reader.specs.Refusals as spec;
 
 use atom_table::AtomRefusal;
 use plan_text::TextRefusal;
 use preference_rules::ListRefusal;
+use text_lines::RefusalCode;
 use thiserror::Error;
 use travel_table::TravelRefusal;
 use unit_location::LocationRefusal;
@@ -102,23 +102,6 @@ pub enum PlanRefusal {
     NoMemory,
 }
 
-/// The number and the arguments by which a refusal is reported.
-#[derive(Clone, Copy, Debug)]
-struct RefusalCode {
-    number: u32,
-    /// In order, at most two.
-    arguments: [Option<u64>; 2],
-}
-
-fn code(number: u32, first: Option<u64>, second: Option<u64>) -> RefusalCode
-    ensures { result ≡ spec.code number first second }
-{
-    RefusalCode {
-        number,
-        arguments: [first, second],
-    }
-}
-
 impl PlanRefusal {
     ghost use Rattle.plan_reader.specs.Refusals.{arguments_of, code_of, number_of};
 
@@ -136,39 +119,40 @@ impl PlanRefusal {
         self.code().arguments
     }
 
-    fn code(&self) -> RefusalCode
+    /// Both together.
+    pub fn code(&self) -> RefusalCode
         ensures { result ≡ code_of self.now }
     {
         match self {
-            PlanRefusal::NotUtf8(row) => code(1, Some(*row), None),
-            PlanRefusal::TooLong(bytes) => code(2, Some(*bytes), None),
-            PlanRefusal::UnknownKind(row) => code(3, Some(*row), None),
-            PlanRefusal::FieldCount(row) => code(4, Some(*row), None),
-            PlanRefusal::BadNumber(row, field) => code(5, Some(*row), Some(*field)),
-            PlanRefusal::BadName(row, field) => code(6, Some(*row), Some(*field)),
-            PlanRefusal::TooManyRecords(row) => code(7, Some(*row), None),
-            PlanRefusal::DuplicateAtom(row) => code(10, Some(*row), None),
-            PlanRefusal::DuplicateUnit(row) => code(11, Some(*row), None),
-            PlanRefusal::TooManyAtoms(row) => code(12, Some(*row), None),
-            PlanRefusal::TooManyUnits(row) => code(13, Some(*row), None),
-            PlanRefusal::UnknownName(row, field) => code(14, Some(*row), Some(*field)),
-            PlanRefusal::NoUnits => code(15, None, None),
-            PlanRefusal::NoAtoms => code(16, None, None),
-            PlanRefusal::NoCalls => code(17, None, None),
-            PlanRefusal::RateSum(sum) => code(18, Some(*sum), None),
-            PlanRefusal::ServiceSum(sum) => code(19, Some(*sum), None),
-            PlanRefusal::DuplicateTravel(row) => code(20, Some(*row), None),
-            PlanRefusal::MissingTravel(origin, target) => code(21, Some(*origin), Some(*target)),
-            PlanRefusal::DuplicateLocation(row) => code(30, Some(*row), None),
-            PlanRefusal::LocationSum(unit, sum) => code(31, Some(*unit), Some(*sum)),
-            PlanRefusal::MissingList(atom) => code(40, Some(*atom), None),
-            PlanRefusal::ListNotWhole(atom) => code(41, Some(*atom), None),
-            PlanRefusal::ListNotAsked(row) => code(42, Some(*row), None),
-            PlanRefusal::ListTwice(row) => code(43, Some(*row), None),
-            PlanRefusal::Version(row) => code(50, Some(*row), None),
-            PlanRefusal::SettingTwice(row) => code(51, Some(*row), None),
-            PlanRefusal::NotStable(calls, service) => code(52, Some(*calls), Some(*service)),
-            PlanRefusal::NoMemory => code(0, None, None),
+            PlanRefusal::NotUtf8(row) => RefusalCode::of_one(1, *row),
+            PlanRefusal::TooLong(bytes) => RefusalCode::of_one(2, *bytes),
+            PlanRefusal::UnknownKind(row) => RefusalCode::of_one(3, *row),
+            PlanRefusal::FieldCount(row) => RefusalCode::of_one(4, *row),
+            PlanRefusal::BadNumber(row, field) => RefusalCode::of_two(5, *row, *field),
+            PlanRefusal::BadName(row, field) => RefusalCode::of_two(6, *row, *field),
+            PlanRefusal::TooManyRecords(row) => RefusalCode::of_one(7, *row),
+            PlanRefusal::DuplicateAtom(row) => RefusalCode::of_one(10, *row),
+            PlanRefusal::DuplicateUnit(row) => RefusalCode::of_one(11, *row),
+            PlanRefusal::TooManyAtoms(row) => RefusalCode::of_one(12, *row),
+            PlanRefusal::TooManyUnits(row) => RefusalCode::of_one(13, *row),
+            PlanRefusal::UnknownName(row, field) => RefusalCode::of_two(14, *row, *field),
+            PlanRefusal::NoUnits => RefusalCode::plain(15),
+            PlanRefusal::NoAtoms => RefusalCode::plain(16),
+            PlanRefusal::NoCalls => RefusalCode::plain(17),
+            PlanRefusal::RateSum(sum) => RefusalCode::of_one(18, *sum),
+            PlanRefusal::ServiceSum(sum) => RefusalCode::of_one(19, *sum),
+            PlanRefusal::DuplicateTravel(row) => RefusalCode::of_one(20, *row),
+            PlanRefusal::MissingTravel(origin, target) => RefusalCode::of_two(21, *origin, *target),
+            PlanRefusal::DuplicateLocation(row) => RefusalCode::of_one(30, *row),
+            PlanRefusal::LocationSum(unit, sum) => RefusalCode::of_two(31, *unit, *sum),
+            PlanRefusal::MissingList(atom) => RefusalCode::of_one(40, *atom),
+            PlanRefusal::ListNotWhole(atom) => RefusalCode::of_one(41, *atom),
+            PlanRefusal::ListNotAsked(row) => RefusalCode::of_one(42, *row),
+            PlanRefusal::ListTwice(row) => RefusalCode::of_one(43, *row),
+            PlanRefusal::Version(row) => RefusalCode::of_one(50, *row),
+            PlanRefusal::SettingTwice(row) => RefusalCode::of_one(51, *row),
+            PlanRefusal::NotStable(calls, service) => RefusalCode::of_two(52, *calls, *service),
+            PlanRefusal::NoMemory => RefusalCode::plain(0),
         }
     }
 }

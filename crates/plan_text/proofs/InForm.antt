@@ -2,22 +2,23 @@
 use Rattle.std.proofs.Common.{◌≡◌, ℕ, zero, suc, ◌+◌, ◌-◌, ◌<◌, ◌≤◌, List, [], ◌∷◌, ◌++◌, length, refl, sym, ap, arith}
 use Rattle.std.specs.Prelude.{Bool, true, false, ◌&&◌, if◌then◌else◌, nat_lt, Option, Some, None, Result, Ok, Err, All, AllPairs}
 use Rattle.std.specs.List.{list_any}
-use Rattle.std.specs.Option.{ok_or, option_to_list}
+use Rattle.std.specs.Option.{ok_or, option_and_then, option_to_list}
 use Rattle.std.specs.Str.{is_utf8}
-use Rattle.std.specs.Str.Parse.{digits_value}
 use Rattle.std.proofs.lemmas.Bool.Decides.{nat_tests}
 use Rattle.std.proofs.lemmas.List.Elements.{All-cons}
 use Rattle.std.proofs.lemmas.List.Kept.{AllPairs-cons}
 use Rattle.std.proofs.lemmas.List.{length-append}
+use Rattle.text_lines.specs.Numbers as digits
 use Rattle.hyper_model.specs.Name.{is_name}
 use Rattle.hyper_model.specs.Plans.{IsBetween}
-use Rattle.plan_text.specs.Fields.{field, is_number, is_within, line_at, name_at, name_in, number_at, number_in, rule_at, field_value}
+use Rattle.plan_text.specs.Fields.{field, is_within, line_at, name_at, name_in, number_at, number_in, rule_at, field_value}
 use Rattle.plan_text.specs.Form.{AreNames, HasValues, IsInForm, IsName, at_of}
 use Rattle.plan_text.specs.Kinds.{has_field_count, is_passed_over, is_version_two, kind_of}
 use Rattle.plan_text.specs.Reading.{atom_of, group_of, line_of, located_of, names_at, period_of, prefer_of, reading_of, record_of, record_of_kind, records_after, records_of, row_reading, rule_of, travel_of, unit_of, version_of}
 use Rattle.plan_text.specs.Rows.{Fields, rows_of}
 use Rattle.plan_text.specs.Steps.{◌>>=◌}
 use Rattle.plan_text.specs.declared.TheConstants.{MOST_RECORDS, MOST_TEXT_BYTES}
+use Rattle.plan_text.specs.declared.field.TheConstants.{MOST_DIGITS}
 use Rattle.plan_text.specs.declared.kind.TheConstants.{MOST_FIELDS}
 use Rattle.plan_text.specs.declared.kind.Kind.{Kind}
 use Rattle.plan_text.specs.declared.kind.Kind.TheVariants as kind
@@ -45,24 +46,21 @@ field_value-ok {A} sort wrong at row place x h = by (is_utf8 (field row place)) 
 within-true : (least most value : ℕ) → is_within least most value ≡ true → IsBetween least most value
 within-true least most value h = record { low = grind (arith, nat_tests); high = grind (arith, nat_tests) }
 
-and_second : (a b : Bool) → (a && b) ≡ true → b ≡ true
-and_second true b h = h
-and_second false b h = absurd (cc)
-
 -- a number that a field says is in range
 pub number_at-between : (least most at : ℕ) (row : Fields) (place n : ℕ) → number_at least most at row place ≡ Ok n
     → IsBetween least most n
 number_at-between least most at row place n h =
-    by (is_number (field row place) && is_within least most (digits_value 10 (field row place))) refl
-    (field_value-ok (number_in least most) BadNumber at row place n h)
+    by (digits.number_in MOST_DIGITS (field row place)) (field_value-ok (number_in least most) BadNumber at row place n h)
   where
-    by : (test : Bool) → (is_number (field row place) && is_within least most (digits_value 10 (field row place))) ≡ test
-        → (if test then Some (digits_value 10 (field row place)) else None) ≡ Some n → IsBetween least most n
-    by true passed q =
-        let is : digits_value 10 (field row place) ≡ n = cc in
-        let inside = and_second (is_number (field row place)) (is_within least most (digits_value 10 (field row place))) passed in
-        within-true least most n (rw is at inside)
-    by false failed q = absurd (cc)
+    inside : (value : ℕ) (test : Bool) → is_within least most value ≡ test → (if test then Some value else None) ≡ Some n
+        → IsBetween least most n
+    inside value true passed q = let is : value ≡ n = cc in within-true least most n (rw is at passed)
+    inside value false failed q = absurd (cc)
+
+    by : (o : Option ℕ) → option_and_then (λ value. if is_within least most value then Some value else None) o ≡ Some n
+        → IsBetween least most n
+    by (Some value) q = inside value (is_within least most value) refl q
+    by None q = absurd (cc)
 
 -- a name that a field says is a name
 pub name_at-is : (at : ℕ) (row : Fields) (place : ℕ) (name : List ℕ) → name_at at row place ≡ Ok name → IsName name

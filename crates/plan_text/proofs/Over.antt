@@ -3,17 +3,10 @@ use Rattle.std.proofs.Common.{◌≡◌, ◌∙◌, ◌⊎◌, ℕ, zero, suc, �
 use Rattle.std.specs.Prelude.{All, Option, Some, None}
 use Rattle.std.specs.List.{filter_map}
 use Rattle.std.specs.Option.{option_or, option_to_list}
-use Rattle.std.proofs.lemmas.List.{append-nil, drop_all, drop_more, take_more}
+use Rattle.std.proofs.lemmas.List.{append-nil, drop_all}
 use Rattle.std.proofs.lemmas.List.Elements.{All-cons, All-head, All-nil, All-tail, filter_map-append}
+use Rattle.hyper_model.proofs.ListPlaces.{rest_at, taken_at}
 use Rattle.plan_text.specs.Steps.{first_over}
-
--- what is left, if x is at place i
-rest_at : {A : Type 0} (xs : List A) (i : ℕ) (x : A) → i < length xs → get_or xs i x ≡ x → drop i xs ≡ x ∷ drop (i + 1) xs
-rest_at xs i x lt is = rw is at (drop_more xs i x lt)
-
--- what was taken, with x at place i
-taken_at : {A : Type 0} (xs : List A) (i : ℕ) (x : A) → i < length xs → get_or xs i x ≡ x → take (i + 1) xs ≡ take i xs ++ x ∷ []
-taken_at xs i x lt is = rw is at (take_more xs i x lt)
 
 -- a thing that is not refused
 pub over-more : {A E : Type 0} (test : List A → A → Option E) (xs : List A) (i : ℕ) (x : A) (total : Option E)

@@ -1,10 +1,8 @@
 -- What a field of a row says.
-use Rattle.std.specs.Prelude.{ℕ, ◌+◌, Bool, ◌&&◌, if◌then◌else◌, nat_lt, nat_le, List, [], ◌∷◌, find, length, slice_index_or, Option, Some, None, Result, Err, codes}
-use Rattle.std.specs.Char.{is_ascii_digit}
-use Rattle.std.specs.List.{list_all}
-use Rattle.std.specs.Option.{ok_or}
+use Rattle.std.specs.Prelude.{ℕ, ◌+◌, Bool, ◌&&◌, if◌then◌else◌, nat_le, List, [], ◌∷◌, find, slice_index_or, Option, Some, None, Result, Err, codes}
+use Rattle.std.specs.Option.{ok_or, option_and_then}
 use Rattle.std.specs.Str.{bytes_eq, is_utf8}
-use Rattle.std.specs.Str.Parse.{digits_value}
+use Rattle.text_lines.specs.Numbers as digits
 use Rattle.hyper_model.specs.Name.{is_name}
 use Rattle.hyper_model.specs.declared.kinds.Line.{Line}
 use Rattle.hyper_model.specs.declared.kinds.Line.TheVariants as line
@@ -15,17 +13,13 @@ use Rattle.plan_text.specs.declared.field.TheConstants.{MOST_DIGITS}
 use Rattle.plan_text.specs.declared.refusal.TextRefusal.{TextRefusal}
 use Rattle.plan_text.specs.declared.refusal.TextRefusal.TheVariants.{NotUtf8, BadNumber, BadName}
 
--- one to nine decimal digits
-abbrev pub is_number : List ℕ → Bool
-is_number bytes = nat_lt 0 (length bytes) && nat_le (length bytes) MOST_DIGITS && list_all is_ascii_digit bytes
-
 abbrev pub is_within : ℕ → ℕ → ℕ → Bool
 is_within least most value = nat_le least value && nat_le value most
 
--- the number that the bytes are, if it is in range
+-- the number that the bytes are, if it has at most nine digits and is in range
 abbrev pub number_in : ℕ → ℕ → List ℕ → Option ℕ
 number_in least most bytes =
-    if is_number bytes && is_within least most (digits_value 10 bytes) then Some (digits_value 10 bytes) else None
+    option_and_then (λ value. if is_within least most value then Some value else None) (digits.number_in MOST_DIGITS bytes)
 
 -- the name that the bytes are
 abbrev pub name_in : List ℕ → Option (List ℕ)

@@ -1,6 +1,4 @@
 ghost use Rattle.std.specs.Prelude.{◌≡◌, ◌<◌, true, false, Err, IfOk};
-ghost use Rattle.std.specs.Char.{is_ascii_digit};
-ghost use Rattle.std.specs.List.{list_all};
 ghost use Rattle.std.specs.Str.{is_utf8};
 ghost use Rattle.plan_text.specs.Fields as spec;
 ghost use Rattle.plan_text.specs.Fields.{field, number_in};
@@ -10,6 +8,7 @@ ghost use Rattle.plan_text.specs.declared.refusal.TextRefusal.{TextRefusal};
 use crate::{Row, TextRefusal};
 use hyper_model::{Line, Name, NameEnd, Rule};
 use std::alloc::Global;
+use text_lines::number_of;
 
 /// The most digits that a number has.
 const MOST_DIGITS: usize = 9;
@@ -42,7 +41,7 @@ pub fn number_at(
     ensures { result ≡ spec.number_at least most number row.now place }
 {
     let text = text_at(row, number, place)?;
-    match number_of(text, least, most) {
+    match number_within(text, least, most) {
         Some(value) => Ok(value),
         None => Err(TextRefusal::BadNumber(u64::from(number), place as u64 + 1)),
     }
@@ -86,20 +85,14 @@ pub fn rule_at(row: &Row<'_>, number: u32, place: usize) -> Result<Rule, TextRef
     }
 }
 
-fn number_of(text: &str, least: u32, most: u32) -> Option<u32>
+fn number_within(text: &str, least: u32, most: u32) -> Option<u32>
     ensures { result ≡ number_in least most text.now }
 {
-    if text.is_empty() || text.len() > MOST_DIGITS || !are_digits(text) {
-        return None;
+    match number_of(text, MOST_DIGITS) {
+        Some(number) => {
+            let value = number as u32;
+            (least <= value && value <= most).then_some(value)
+        }
+        None => None,
     }
-    match text.parse::<u32>() {
-        Ok(value) => (least <= value && value <= most).then_some(value),
-        Err(_) => None,
-    }
-}
-
-fn are_digits(text: &str) -> bool
-    ensures { result ≡ list_all is_ascii_digit text.now }
-{
-    text.as_bytes().iter().all(|byte| byte.is_ascii_digit())
 }

@@ -77,7 +77,7 @@ pub(crate) fn may_have(kind: Kind, count: usize) -> bool
 }
 
 /// Whether a row gives no record: it has no field, or is a note.
-pub(crate) fn is_skipped(row: &Row<'_>) -> bool
+pub fn is_skipped(row: &Row<'_>) -> bool
     ensures { result ≡ is_passed_over row.now }
 {
     row.is_empty() || row.field(0) == b"note".as_slice()

@@ -11,11 +11,12 @@ mod refusal;
 mod row_list;
 
 pub use field::{line_at, name_at, number_at, rule_at, text_at};
+pub use kind::is_skipped;
 pub use reading::read_row;
 pub use record::Record;
 pub use record_list::{law_first_refusal, records};
 pub use refusal::TextRefusal;
-pub use row_list::{Row, RowList, rows};
+pub use row_list::{Row, RowList, row_reader, rows};
 
 /// The most bytes that a text has.
 pub const MOST_TEXT_BYTES: usize = 4_194_304;

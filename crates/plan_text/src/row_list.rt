@@ -31,7 +31,7 @@ impl<'a> Model for Row<'a> {
 
 impl<'a> Row<'a> {
     /// What counts of a record.
-    pub(crate) fn of(source: &'a ByteRecord) -> Row<'a>
+    pub fn of(source: &'a ByteRecord) -> Row<'a>
         ensures { result ≡ clean_row (fields_of source.now) }
     {
         Row {
@@ -152,7 +152,7 @@ fn all_records(alloc: Global, bytes: &[u8]) -> Result<Vec<ByteRecord>, AllocErro
 ///
 /// It fails only for lack of memory: the bytes are in memory, any length of a record is allowed, and no field has to be
 /// text.
-pub(crate) fn row_reader(alloc: Global, bytes: &[u8]) -> Reader<&[u8]>
+pub fn row_reader(alloc: Global, bytes: &[u8]) -> Reader<&[u8]>
     ensures trim { reader_trim result ≡ trim.None }
     ensures ready { Ready result }
     ensures config { reader_config result ≡ default_config }

@@ -69,17 +69,22 @@ centred_grouped rule units atoms located j lt =
     (drop 1 (centred_row rule units atoms located (get_or atoms j no_atom)).begins)
     (centre_is (cost_of rule atoms located (get_or atoms j no_atom)) (get_or atoms j no_atom).district units).full)
 
+-- lists by distance are those of a plan
+pub are_lists : (rule : Rule) (located : Grid) (p : PlanParts) → p.lists ≡ centred_lists rule (length p.units) p.atoms located → HasLists p
+are_lists rule located p is =
+    rw is (record {
+      one_each = length-map p.atoms (centred_row rule (length p.units) p.atoms located);
+      width = refl;
+      grouped = λ j lt. centred_grouped rule (length p.units) p.atoms located j lt;
+    })
+
 has_centred : (rule : Rule) (entries : Entries) (located : Grid) (records : List Record) (lists : GroupLists) (p : PlanParts)
     → centred_lists_of rule entries located records ≡ Ok lists
     → p.units ≡ entries.units → p.atoms ≡ entries.atoms → p.lists ≡ lists → HasLists p
 has_centred rule entries located records lists p given units atoms same =
     let is : p.lists ≡ centred_lists rule (length entries.units) entries.atoms located =
     same ∙ centred_ok rule entries located records lists given in
-    rw (is, units, atoms) (record {
-      one_each = length-map entries.atoms (centred_row rule (length entries.units) entries.atoms located);
-      width = refl;
-      grouped = λ j lt. centred_grouped rule (length entries.units) entries.atoms located j lt;
-    })
+    are_lists rule located p (rw (units, atoms) is)
 
 has_given : (entries : Entries) (records : List Record) (lists : GroupLists) (p : PlanParts) → HasEntries entries
     → given_lists_of (unit_names entries.units) (atom_names entries.atoms) records ≡ Ok lists

@@ -6,14 +6,12 @@ use Rattle.std.proofs.lemmas.Bool.Decides.{nat_tests}
 use Rattle.std.proofs.lemmas.List.{append-nil, get_or-replicate, length-append, length-map, length-replicate, length-take-le, map-append, replicate_more, take_more}
 use Rattle.std.proofs.lemmas.List.Concat.{flat_map-append}
 use Rattle.std.proofs.lemmas.List.Folds.{list_any-append}
-use Rattle.std.proofs.lemmas.Bool.{cases_eq}
-use Rattle.std.proofs.lemmas.List.{get_or-set_other, get_or-set_same, length-set}
 use Rattle.std.proofs.lemmas.List.FromFn.{fill_by_all, get_or-map-range_with_len, length-map-range_with_len}
 use Rattle.std.proofs.lemmas.Option.{get_or_from_slice_get, slice_get_within}
+use Rattle.hyper_model.proofs.ListPlaces.{listed_set, taken_at}
 use Rattle.plan_text.specs.declared.record.Record.{Record}
 use Rattle.plan_text.specs.declared.record.Record.TheVariants as rec
 use Rattle.atom_table.specs.Names.{place_or_zero}
-use Rattle.atom_table.proofs.GivenValues.{listed_set}
 use Rattle.atom_table.proofs.OwnNames.{place_or_zero-within}
 use Rattle.preference_rules.specs.Drafts.{Draft, again_refusal, draft_at, draft_of, drafts_of, no_draft, with_group, with_next, with_order, with_record}
 use Rattle.preference_rules.specs.Given.{twice_refusal}
@@ -141,32 +139,32 @@ passed_over units atoms before r g l o =
     unlisted units atoms before r
     (λ j. sym (draft_of-push units atoms before r j ∙ rw (g j, l j, o j) (joined_none (draft_of units atoms before j))))
 
+-- a record that changes the draft of one atom
+changed_at : (units atoms : List (List ℕ)) (before : List Record) (r : Record) (place : ℕ) (change : Draft → Draft) → place < length atoms
+    → ((j : ℕ) → draft_of units atoms (before ++ r ∷ []) j
+    ≡ (if place == j then change (draft_of units atoms before j) else draft_of units atoms before j))
+    → set (drafts_of units atoms before) place (change (draft_at (drafts_of units atoms before) place))
+    ≡ drafts_of units atoms (before ++ r ∷ [])
+changed_at units atoms before r place change lt after =
+    listed_set (draft_of units atoms before) (draft_of units atoms (before ++ r ∷ [])) (length atoms) place
+    (change (draft_at (drafts_of units atoms before) place)) no_draft lt
+    (after place
+    ∙ chosen (place == place) (change (draft_of units atoms before place)) (draft_of units atoms before place) (same_place place place refl)
+    ∙ ap change (sym (draft_at-drafts_of units atoms before place lt)))
+    (λ j h ne. after j ∙ left_out (place == j) (change (draft_of units atoms before j)) (draft_of units atoms before j) (other_place place j ne))
+
 pub drafts_of-push : (units atoms : List (List ℕ)) (before : List Record) (r : Record) → 0 < length atoms
     → with_record units atoms (drafts_of units atoms before) r ≡ drafts_of units atoms (before ++ r ∷ [])
 drafts_of-push units atoms before (rec.Prefer at atom list) some =
-    let place : ℕ = place_or_zero atoms atom in
-    let lt : place < length atoms = place_or_zero-within atoms atom some in
-    listed_set (draft_of units atoms before) (draft_of units atoms (before ++ rec.Prefer at atom list ∷ [])) (length atoms) place
-    (with_order (draft_at (drafts_of units atoms before) place) (places_of units list)) no_draft lt
-    (draft_of-push units atoms before (rec.Prefer at atom list) place
-    ∙ order_case (draft_of units atoms before place) (places_of units list) (place == place)
-    ∙ chosen (place == place) (with_order (draft_of units atoms before place) (places_of units list)) (draft_of units atoms before place) (same_place place place refl)
-    ∙ ap (λ (draft : Draft). with_order draft (places_of units list)) (sym (draft_at-drafts_of units atoms before place lt)))
-    (λ j h ne. draft_of-push units atoms before (rec.Prefer at atom list) j
-    ∙ order_case (draft_of units atoms before j) (places_of units list) (place == j)
-    ∙ left_out (place == j) (with_order (draft_of units atoms before j) (places_of units list)) (draft_of units atoms before j) (other_place place j ne))
+    changed_at units atoms before (rec.Prefer at atom list) (place_or_zero atoms atom) (λ draft. with_order draft (places_of units list))
+    (place_or_zero-within atoms atom some)
+    (λ j. draft_of-push units atoms before (rec.Prefer at atom list) j
+    ∙ order_case (draft_of units atoms before j) (places_of units list) (place_or_zero atoms atom == j))
 drafts_of-push units atoms before (rec.Group at atom list) some =
-    let place : ℕ = place_or_zero atoms atom in
-    let lt : place < length atoms = place_or_zero-within atoms atom some in
-    listed_set (draft_of units atoms before) (draft_of units atoms (before ++ rec.Group at atom list ∷ [])) (length atoms) place
-    (with_group (draft_at (drafts_of units atoms before) place) (places_of units list)) no_draft lt
-    (draft_of-push units atoms before (rec.Group at atom list) place
-    ∙ group_case (draft_of units atoms before place) (places_of units list) (place == place)
-    ∙ chosen (place == place) (with_group (draft_of units atoms before place) (places_of units list)) (draft_of units atoms before place) (same_place place place refl)
-    ∙ ap (λ (draft : Draft). with_group draft (places_of units list)) (sym (draft_at-drafts_of units atoms before place lt)))
-    (λ j h ne. draft_of-push units atoms before (rec.Group at atom list) j
-    ∙ group_case (draft_of units atoms before j) (places_of units list) (place == j)
-    ∙ left_out (place == j) (with_group (draft_of units atoms before j) (places_of units list)) (draft_of units atoms before j) (other_place place j ne))
+    changed_at units atoms before (rec.Group at atom list) (place_or_zero atoms atom) (λ draft. with_group draft (places_of units list))
+    (place_or_zero-within atoms atom some)
+    (λ j. draft_of-push units atoms before (rec.Group at atom list) j
+    ∙ group_case (draft_of units atoms before j) (places_of units list) (place_or_zero atoms atom == j))
 drafts_of-push units atoms before (rec.Version at number) some =
     passed_over units atoms before (rec.Version at number) (λ j. refl) (λ j. refl) (λ j. refl)
 drafts_of-push units atoms before (rec.LineIs at line) some =
@@ -247,9 +245,6 @@ drafts_of-none units atoms n is =
     (λ k lt. get_or-replicate n k no_draft no_draft (omega arith))
 
 -- a step of the reading
-pub taken_to : {A : Type 0} (xs : List A) (i : ℕ) (x : A) → i < length xs → get_or xs i x ≡ x → take (i + 1) xs ≡ take i xs ++ x ∷ []
-taken_to xs i x lt is = rw is at (take_more xs i x lt)
-
 again_is : (units atoms : List (List ℕ)) (before : List Record) (drafts : List Draft) (r : Record) → 0 < length atoms
     → drafts ≡ drafts_of units atoms before → again_refusal atoms drafts r ≡ twice_refusal atoms before r
 again_is units atoms before drafts r some is =
@@ -272,4 +267,4 @@ drafts-taken units atoms records i drafts new r some lt read is made =
     made
     ∙ ap (λ (all : List Draft). with_record units atoms all r) is
     ∙ drafts_of-push units atoms (take i records) r some
-    ∙ ap (drafts_of units atoms) (sym (taken_to records i r lt read))
+    ∙ ap (drafts_of units atoms) (sym (taken_at records i r lt read))

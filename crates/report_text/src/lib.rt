@@ -12,7 +12,7 @@ mod width;
 pub use ending::{ReportEnd, Widths};
 pub use head::push_head;
 pub use labels::{label, push_label};
-pub use measure_row::push_measure;
+pub use measure_row::{push_found, push_measure};
 pub use reporting::report;
 pub use text_lines::number_text;
 pub use width::is_too_wide;

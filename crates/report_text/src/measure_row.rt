@@ -20,7 +20,8 @@ pub fn push_measure(text: &mut Vec<u8>, plan: &Plan, item: Enclosed) -> Result<(
     Ok(())
 }
 
-fn push_found(text: &mut Vec<u8>, found: Found, scale: u32) -> Result<(), AllocError>
+/// Puts the low and the high end of a measure of this scale after the text, or `none`.
+pub fn push_found(text: &mut Vec<u8>, found: Found, scale: u32) -> Result<(), AllocError>
     requires { IsScale scale }
     ensures { IfOk result (λ _. text.new.items ≡ text.old.items ++ found_bytes scale found) }
 {

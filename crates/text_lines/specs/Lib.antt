@@ -1,2 +1,4 @@
 pub mod Fields
 pub mod Fractions
+pub mod Numbers
+pub mod RefusalCodes

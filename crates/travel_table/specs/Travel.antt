@@ -1,14 +1,14 @@
 -- Which travel times records give, or why they give none.
-use Rattle.std.specs.Prelude.{ℕ, ◌+◌, ◌*◌, ◌/◌, ◌%◌, List, [], length, Option, Some, None, Result, Ok, find, not}
+use Rattle.std.specs.Prelude.{ℕ, ◌+◌, ◌*◌, ◌/◌, ◌%◌, List, length, Option, Some, None, Result, Ok, find, not}
 use Rattle.std.specs.List.{filter_map, range_with_len}
-use Rattle.std.specs.Option.{option_and_then, option_map, option_or}
+use Rattle.std.specs.Option.{option_map, option_or}
 use Rattle.hyper_model.specs.Grid.{Grid}
-use Rattle.plan_text.specs.Steps.{◌>>=◌, first_over, unless_refused}
+use Rattle.plan_text.specs.Steps.{◌>>=◌, unless_refused}
 use Rattle.plan_text.specs.declared.record.Record.{Record}
 use Rattle.plan_text.specs.declared.record.Record.TheVariants as rec
 use Rattle.atom_table.specs.Names.{place_of}
 use Rattle.atom_table.specs.Entries.{Entries, atom_names}
-use Rattle.atom_table.specs.Pairs.{Given, given_for, has_value, table_of, twice}
+use Rattle.atom_table.specs.Pairs.{Given, given_for, has_value, pairs_refusal, table_of}
 use Rattle.travel_table.specs.declared.refusal.TravelRefusal.{TravelRefusal}
 use Rattle.travel_table.specs.declared.refusal.TravelRefusal.TheVariants.{DuplicateTravel, MissingTravel}
 
@@ -25,12 +25,9 @@ trip_in entries _ = None
 abbrev pub trips_in : Entries → List Record → List Given
 trips_in entries records = filter_map (trip_in entries) records
 
--- a record after others: none of these is for the same pair
-abbrev pub trip_refusal : Entries → List Record → Record → Option TravelRefusal
-trip_refusal entries before r = option_and_then (twice DuplicateTravel (has_value (trips_in entries before))) (trip_in entries r)
-
+-- no two records may be for the same pair
 abbrev pub trips_refusal : Entries → List Record → Option TravelRefusal
-trips_refusal entries records = first_over (trip_refusal entries) [] records
+trips_refusal entries records = pairs_refusal DuplicateTravel (trip_in entries) records
 
 -- the refusal of a pair without a travel time, if there is one, among so many atoms
 abbrev pub first_missing : ℕ → Option ℕ → Option TravelRefusal

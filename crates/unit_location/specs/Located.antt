@@ -1,15 +1,15 @@
 -- Which locations records give, or why they give none.
-use Rattle.std.specs.Prelude.{ℕ, ◌+◌, ◌==◌, List, [], length, Option, Some, None, Result, Ok, find, not}
+use Rattle.std.specs.Prelude.{ℕ, ◌+◌, ◌==◌, List, length, Option, Some, None, Result, Ok, find, not}
 use Rattle.std.specs.List.{filter_map, range_with_len}
-use Rattle.std.specs.Option.{option_and_then, option_map, option_or}
+use Rattle.std.specs.Option.{option_map, option_or}
 use Rattle.hyper_model.specs.Grid.{Grid, cell}
 use Rattle.hyper_model.specs.Sums.{sum_below}
-use Rattle.plan_text.specs.Steps.{◌>>=◌, first_over, unless_refused}
+use Rattle.plan_text.specs.Steps.{◌>>=◌, unless_refused}
 use Rattle.plan_text.specs.declared.record.Record.{Record}
 use Rattle.plan_text.specs.declared.record.Record.TheVariants as rec
 use Rattle.atom_table.specs.Names.{place_of}
 use Rattle.atom_table.specs.Entries.{Entries, atom_names, unit_names}
-use Rattle.atom_table.specs.Pairs.{Given, given_for, has_value, table_of, twice}
+use Rattle.atom_table.specs.Pairs.{Given, given_for, pairs_refusal, table_of}
 use Rattle.unit_location.specs.declared.refusal.LocationRefusal.{LocationRefusal}
 use Rattle.unit_location.specs.declared.refusal.LocationRefusal.TheVariants.{DuplicateLocation, LocationSum}
 
@@ -22,12 +22,9 @@ share_in entries _ = None
 abbrev pub shares_in : Entries → List Record → List Given
 shares_in entries records = filter_map (share_in entries) records
 
--- a record after others: none of these is for the same unit and atom
-abbrev pub share_refusal : Entries → List Record → Record → Option LocationRefusal
-share_refusal entries before r = option_and_then (twice DuplicateLocation (has_value (shares_in entries before))) (share_in entries r)
-
+-- no two records may be for the same unit and atom
 abbrev pub shares_refusal : Entries → List Record → Option LocationRefusal
-shares_refusal entries records = first_over (share_refusal entries) [] records
+shares_refusal entries records = pairs_refusal DuplicateLocation (share_in entries) records
 
 -- all thousandths of a unit
 abbrev pub row_sum : Grid → ℕ → ℕ
