@@ -29,11 +29,11 @@ unfolding AreWeightsOf
 weights-next entries zero before items some are pushed = absurd (omega arith)
 weights-next entries (suc m) before items some are pushed = (before, are, pushed)
 
-pushed-count : (old new : List Ends) (w : Ends) → PushesShifted old new w → length new ≡ length old + 1
+pub pushed-count : (old new : List Ends) (w : Ends) → PushesShifted old new w → length new ≡ length old + 1
 pushed-count old new w pushed =
     ap (λ l. length l) pushed.items ∙ length-map (old ++ w ∷ []) (shifted_ends pushed.power) ∙ length-append old (w ∷ [])
 
-pushed-in_range : (old new : List Ends) (w : Ends) → All IsWeight old → w.lo ≤ w.hi → PushesShifted old new w
+pub pushed-in_range : (old new : List Ends) (w : Ends) → All IsWeight old → w.lo ≤ w.hi → PushesShifted old new w
     → All IsWeight new
 pushed-in_range old new w weights ordered pushed =
     rw pushed.items

@@ -4,6 +4,7 @@ pub mod Ordering
 pub mod FirstGroups
 pub mod Algebra
 pub mod SetParts
+pub mod Spans
 pub mod Places
 pub mod WeightParts
 pub mod MeasureEnds

@@ -51,17 +51,35 @@ module _ (p : PlanParts) (order : WordOrder) (o : IsOrderOf p order) where
   pub full_place : word_at order (full_word p) ≡ full_word p
   full_place = last_word (units p) order.words o.ordered
 
+  -- the words' masses in their order, and after them any others
+  module _ (xs after : List ℕ) where
+    abbrev mass_at : ℕ → ℕ
+    mass_at i = slice_index (map (mass_in xs) order.words ++ after) i
+
+    pub mass_of_word : (i : ℕ) → i < words p → mass_at i ≡ mass_in xs (word_at order i)
+    mass_of_word i l =
+        let inside : i < length order.words = omega (arith, o.ordered.one_each) in
+        let mapped : i < length (map (mass_in xs) order.words) =
+        omega (arith, inside, length-map order.words (mass_in xs)) in
+        get_or_append_left (map (mass_in xs) order.words) after 0 i mapped
+        ∙ get_or-map (mass_in xs) order.words i 0 0 inside
+
+    -- a sum over the words by rank, of a test and a number of times for each
+    pub sum_over_words : (f : ℕ → ℕ → ℕ)
+        → sum_below (words p) (λ i. f (word_or_full order i) (mass_at i))
+        ≡ sum_below (words p) (λ w. f w (mass_in xs w))
+    sum_over_words f =
+        sum-same (words p) (λ i. f (word_or_full order i) (mass_at i))
+        (λ i. f (word_at order i) (mass_in xs (word_at order i)))
+        (λ i l. ap (λ w. f w (mass_at i)) (word_of_place i l) ∙ ap (f (word_at order i)) (mass_of_word i l))
+        ∙ sum_relabelled (words p) (word_at order) _ (λ w. f w (mass_in xs w)) (words_inverse (units p) order.words o.ordered)
+
   module _ (xs : List ℕ) (z : ℕ) where
     abbrev number : ℕ → ℕ
     number i = slice_index (masses_by_place p order xs z) i
 
-    pub mass_of_place : (i : ℕ) → i < words p → number i ≡ mass_in xs (word_at order i)
-    mass_of_place i l =
-        let inside : i < length order.words = omega (arith, o.ordered.one_each) in
-        let mapped : i < length (map (mass_in xs) order.words) =
-        omega (arith, inside, length-map order.words (mass_in xs)) in
-        get_or_append_left (map (mass_in xs) order.words) (tail_masses p.line z) 0 i mapped
-        ∙ get_or-map (mass_in xs) order.words i 0 0 inside
+    mass_of_place : (i : ℕ) → i < words p → number i ≡ mass_in xs (word_at order i)
+    mass_of_place i l = mass_of_word xs (tail_masses p.line z) i l
 
     words_mapped : length (map (mass_in xs) order.words) ≡ words p
     words_mapped = length-map order.words (mass_in xs) ∙ o.ordered.one_each
@@ -79,15 +97,10 @@ module _ (p : PlanParts) (order : WordOrder) (o : IsOrderOf p order) where
         ∙ ap (λ i. slice_index (map (mass_in xs) order.words ++ z ∷ []) i) (sym words_mapped)
         ∙ get_or-append_seam (map (mass_in xs) order.words) z [] 0
 
-    -- a sum over the words by rank, of a test and a number of times for each
-    pub sum_by_rank : (f : ℕ → ℕ → ℕ)
+    sum_by_rank : (f : ℕ → ℕ → ℕ)
         → sum_below (words p) (λ i. f (word_or_full order i) (number i))
         ≡ sum_below (words p) (λ w. f w (mass_in xs w))
-    sum_by_rank f =
-        sum-same (words p) (λ i. f (word_or_full order i) (number i))
-        (λ i. f (word_at order i) (mass_in xs (word_at order i)))
-        (λ i l. ap (λ w. f w (number i)) (word_of_place i l) ∙ ap (f (word_at order i)) (mass_of_place i l))
-        ∙ sum_relabelled (words p) (word_at order) _ (λ w. f w (mass_in xs w)) (words_inverse (units p) order.words o.ordered)
+    sum_by_rank f = sum_over_words xs (tail_masses p.line z) f
 
     -- and over all places: the calls that wait stand at the full word
     pub sum_by_place : IsTail p.line p xs z → (f : ℕ → ℕ → ℕ) → f (full_word p) 0 ≡ 0

@@ -1,9 +1,9 @@
 -- Where weights enclose numbers up to one common factor, the part of some of them encloses the share that their
 -- numbers have in all.
-use Rattle.std.proofs.Common.{◌≡◌, ℕ, ◌+◌, ◌*◌, ◌<◌, ◌≤◌, Bool, not, cond, refl, sym, ap, ◌∙◌, arith}
+use Rattle.std.proofs.Common.{◌≡◌, ℕ, ◌+◌, ◌*◌, ◌<◌, ◌≤◌, Bool, not, cond, refl, sym, ap, ap₂, ◌∙◌, arith}
 use Rattle.hyper_model.specs.Sums.{sum_below}
 use Rattle.hyper_model.proofs.Sums.{sum-same, sum-scaled, sum_split, positive_place, cond_scaled}
-use Rattle.fixed_interval.specs.Ends.{Ends, Encloses, scaled_ends}
+use Rattle.fixed_interval.specs.Ends.{Ends, Encloses, between, scaled_ends, share_ends}
 use Rattle.fixed_interval.proofs.Rounding.{encloses_same, encloses_scaled, encloses_ratio, encloses_share}
 use Rattle.fixed_interval.proofs.Scaled.{Holds, AreScaled, scaled_by}
 use Rattle.busy_words.specs.Algebra.{where_ends}
@@ -20,14 +20,15 @@ holds_fewer n m w y le h = record {
   live = λ k inside some. h.live k (omega arith) some;
 }
 
-encloses_weighed : (n : ℕ) (times : ℕ → ℕ) (w : ℕ → Ends) (y : ℕ → ℕ) (den : ℕ)
+-- a sum of weights, each so many times, encloses the same sum of numbers
+pub encloses_weighed : (n : ℕ) (times : ℕ → ℕ) (w : ℕ → Ends) (y : ℕ → ℕ) (den : ℕ)
     → ((i : ℕ) → i < n → Encloses (w i) (y i) den) → Encloses (weighed_ends n times w) (weighed_numbers n times y) den
 encloses_weighed n times w y den h =
     encloses_total n (λ i. scaled_ends (times i) (w i)) (λ i. times i * y i) den
     (λ i l. encloses_scaled (w i) (scaled_ends (times i) (w i)) (times i) refl (y i) den (h i l))
 
 -- a common factor of the numbers is one of their sum
-numbers_scaled : (n k : ℕ) (times y : ℕ → ℕ) → weighed_numbers n times (λ i. k * y i) ≡ k * weighed_numbers n times y
+pub numbers_scaled : (n k : ℕ) (times y : ℕ → ℕ) → weighed_numbers n times (λ i. k * y i) ≡ k * weighed_numbers n times y
 numbers_scaled n k times y =
     sum-same n (λ i. times i * (k * y i)) (λ i. k * (times i * y i)) (λ i l. omega arith)
     ∙ sum-scaled n k (λ i. times i * y i)
@@ -77,3 +78,16 @@ set_part_encloses unit n test w y h some =
     (omega (arith, ap (λ k. unit * k) (set_scaled n c.factor test y)))
     (sum_split n test (λ i. c.factor * y i) ∙ sum-scaled n c.factor y)
     (encloses_share (set_ends n test w) (set_ends n others w) (set_part unit n test w) unit refl a b c.den inside outside)
+
+set_ends_same : (n : ℕ) (s t : ℕ → Bool) (w : ℕ → Ends) → ((i : ℕ) → i < n → s i ≡ t i) → set_ends n s w ≡ set_ends n t w
+set_ends_same n s t w same =
+    ap₂ between
+    (sum-same n (λ i. cond (s i) (w i).lo 0) (λ i. cond (t i) (w i).lo 0) (λ i l. ap (λ b. cond b (w i).lo 0) (same i l)))
+    (sum-same n (λ i. cond (s i) (w i).hi 0) (λ i. cond (t i) (w i).hi 0) (λ i l. ap (λ b. cond b (w i).hi 0) (same i l)))
+
+-- two tests that agree at every place have the same part
+pub set_part_same : (unit n : ℕ) (s t : ℕ → Bool) (w : ℕ → Ends) → ((i : ℕ) → i < n → s i ≡ t i)
+    → set_part unit n s w ≡ set_part unit n t w
+set_part_same unit n s t w same =
+    ap₂ (share_ends unit) (set_ends_same n s t w same)
+    (set_ends_same n (λ i. not (s i)) (λ i. not (t i)) w (λ i l. ap not (same i l)))

@@ -1,6 +1,6 @@
 -- Parts of weights: of the weights of n places, w i at the place i, the share that some of them have, or that
 -- each has that is counted so many times.
-use Rattle.std.specs.Prelude.{ℕ, ◌*◌, Bool, not}
+use Rattle.std.specs.Prelude.{ℕ, ◌*◌, Bool, not, ◌&&◌, nat_le, nat_lt}
 use Rattle.fixed_interval.specs.Ends.{Ends, ratio_ends, scaled_ends, share_ends}
 use Rattle.hyper_model.specs.Sums.{sum_below}
 use Rattle.busy_words.specs.Algebra.{total_ends, where_ends}
@@ -29,3 +29,7 @@ set_ends n test w = total_ends n (λ i. where_ends (test i) (w i))
 -- their part among all
 abbrev pub set_part : ℕ → ℕ → (ℕ → Bool) → (ℕ → Ends) → Ends
 set_part unit n test w = share_ends unit (set_ends n test w) (set_ends n (λ i. not (test i)) w)
+
+-- the place is not before the first of two, and before the second
+abbrev pub is_from_to : ℕ → ℕ → ℕ → Bool
+is_from_to first past i = nat_le first i && nat_lt i past

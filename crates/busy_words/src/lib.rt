@@ -12,5 +12,5 @@ mod words;
 
 pub use dispatch::{first_free, portion, takers, up};
 pub use orders::Order;
-pub use sums::{busy_part, full_part, tail_part, taken_part};
+pub use sums::{busy_part, full_part, part_between, tail_part, taken_part, unit_part};
 pub use words::{is_busy, level};

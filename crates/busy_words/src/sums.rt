@@ -6,7 +6,7 @@ ghost use Rattle.hyper_model.specs.Words.{is_busy as is_busy_in, full_word, word
 ghost use Rattle.hyper_model.specs.Solutions.{mass_in};
 ghost use Rattle.hyper_model.specs.Measures.{base, busy_mass, mass, taken_mass};
 ghost use Rattle.busy_words.specs.Order.{WordOrder, word_or_full};
-ghost use Rattle.busy_words.specs.Parts.{set_ends, set_part, weighed_ends};
+ghost use Rattle.busy_words.specs.Parts.{is_from_to, set_ends, set_part, weighed_ends};
 ghost use Rattle.busy_words.specs.WeightParts.{EnclosesSolution, IsOrderOf, base_places, busy_part as busy_part_of, full_part as full_part_of, other_shares, places, tail_part as tail_part_of, taken_part as taken_part_of, taken_shares};
 
 use crate::dispatch::taken_share;
@@ -47,7 +47,34 @@ pub fn busy_part(plan: &Plan, order: &Order, weights: &Weights, unit: u8) -> Iv
     ensures encloses { (xs : List ℕ) (z : ℕ) → EnclosesSolution plan.now order.now weights.now.items xs z
         → Encloses result (2 ^ 62 * busy_mass plan.now (mass_in xs) z unit) (mass plan.now (mass_in xs) z) }
 {
+    unit_part(order, weights, unit)
+}
+
+/// The part of the weights at whose words this unit is busy, in units of `1 / 2^62`. All units are busy at the weights
+/// that stand after those of the words.
+pub fn unit_part(order: &Order, weights: &Weights, unit: u8) -> Iv
+    requires { unit < order.now.units }
+    ensures { result ≡ set_part (2 ^ 62) (length weights.now.items) (λ i. is_busy_in (word_or_full order.now i) unit)
+        (ends_at weights.now.items) }
+{
     let (inside, rest) = busy_sums(order, weights, unit);
+    inside.part_of(rest)
+}
+
+/// The part of the weights from one place up to another, whose weight is not among them, in units of `1 / 2^62`.
+pub fn part_between(weights: &Weights, first: usize, past: usize) -> Iv
+    ensures { result ≡ set_part (2 ^ 62) (length weights.now.items) (is_from_to first past) (ends_at weights.now.items) }
+{
+    let mut inside = Wide::new(0, 0);
+    let mut rest = Wide::new(0, 0);
+    for place in 0..weights.len() {
+        let weight = weights.get(place).wide();
+        if first <= place && place < past {
+            inside = inside.plus(weight);
+        } else {
+            rest = rest.plus(weight);
+        }
+    }
     inside.part_of(rest)
 }
 
@@ -92,17 +119,7 @@ fn words_of(plan: &Plan) -> usize
 fn part_from(weights: &Weights, first: usize) -> Iv
     ensures { result ≡ set_part (2 ^ 62) (length weights.now.items) (λ i. nat_le first i) (ends_at weights.now.items) }
 {
-    let mut inside = Wide::new(0, 0);
-    let mut rest = Wide::new(0, 0);
-    for place in 0..weights.len() {
-        let weight = weights.get(place).wide();
-        if first <= place {
-            inside = inside.plus(weight);
-        } else {
-            rest = rest.plus(weight);
-        }
-    }
-    inside.part_of(rest)
+    part_between(weights, first, weights.len())
 }
 
 // The sum of the weights at which the unit is busy, and that of the others.

@@ -1,5 +1,5 @@
 -- Weights that are all divided by one power of two, and weights that gain one more.
-use Rattle.std.proofs.Common.{◌≡◌, ℕ, suc, ◌+◌, ◌-◌, ◌*◌, ◌/◌, ◌^◌, ◌<◌, ◌≤◌, List, [], ◌∷◌, ◌++◌, map, length, slice_index, All, refl, arith, ap, ◌∙◌, inl, inr}
+use Rattle.std.proofs.Common.{◌≡◌, ℕ, suc, ◌+◌, ◌-◌, ◌*◌, ◌/◌, ◌^◌, ◌<◌, ◌≤◌, List, [], ◌∷◌, ◌++◌, map, length, slice_index, All, refl, sym, arith, ap, ◌∙◌, inl, inr}
 use Rattle.std.specs.Int.{div_ceil}
 use Rattle.std.specs.Int.Count.{count_leading_zeros}
 use Rattle.std.proofs.Math.Nat.{eq-or-lt_of_le, mul-le-mul_left, mul-le-mul_right, pow-le-pow_right}
@@ -114,6 +114,13 @@ pub encloses_pushed : (old new : List Ends) (w : Ends) → PushesShifted old new
     → EnclosesAll (old ++ w ∷ []) numbers → EnclosesAll new numbers
 encloses_pushed old new w pushed numbers e =
     rw pushed.items (encloses_shifts pushed.power (old ++ w ∷ []) numbers e)
+
+-- A weight that needs no shift goes to the end of weights that stay as they are.
+pub pushed_unshifted : (old new : List Ends) (w : Ends) → PushesShifted old new w → w.hi ≤ 2 ^ 52 → new ≡ old ++ w ∷ []
+pushed_unshifted old new w pushed small =
+    let least : pushed.power ≤ 0 = pushed.least.least 0 (no_shift-least w.hi small).fits in
+    let none : pushed.power ≡ 0 = omega arith in
+    pushed.items ∙ sym (map-shifted-zero pushed.power (old ++ w ∷ []) none)
 
 -- One weight that is not 0 encloses any one number.
 pub encloses_one : (v y : ℕ) → 0 < v → EnclosesAll (exact_ends v ∷ []) (y ∷ [])

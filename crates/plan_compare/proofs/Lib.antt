@@ -6,9 +6,6 @@ pub mod StudySteps
 pub mod Pieces
 pub mod Pairs
 pub mod MeasureRows
-pub mod ValueSteps
 pub mod VerdictRows
 pub mod WideValues
-pub mod RegionValues
 pub mod TrueVerdicts
-pub mod SolvedPlans

@@ -1,53 +1,25 @@
 -- If the ends of two plans are apart, so are the measures of all their solutions.
-use Rattle.std.proofs.Common.{◌≡◌, ℕ, ◌+◌, ◌*◌, ◌≤◌, ◌<◌, ◌∙◌, sym, ap, refl, subst, arith, Bool, true, false, List, [], ◌∷◌, length, get_or}
+use Rattle.std.proofs.Common.{◌≡◌, ℕ, ◌+◌, ◌<◌, ◌∙◌, sym, ap, refl, subst, arith, Bool, true, false, List, [], ◌∷◌, length, get_or}
 use Rattle.std.specs.Prelude.{All, if◌then◌else◌, nat_lt, option_map, slice_get}
 use Rattle.std.specs.List.{flat_map, range_with_len}
-use Rattle.std.proofs.Math.Nat.{lt_of_mul-lt-mul_left, mul-le-mul_right, mul-pos}
 use Rattle.std.proofs.lemmas.Bool.Decides.{nat_tests}
 use Rattle.std.proofs.lemmas.List.Elements.{All-append, All-head, All-map, All-nil, All-tail}
 use Rattle.std.proofs.lemmas.Option.{get_or_from_slice_get, same_Some, slice_get-map, slice_get_within}
 use Rattle.hyper_model.specs.Enclosures.{EnclosureList}
-use Rattle.hyper_model.specs.Measures.{ContainsRatio, IsContained, Ratio, is_of_region, measure_of, scale_of}
-use Rattle.hyper_model.specs.Plans.{IsAccepted}
-use Rattle.hyper_model.specs.Solutions.{IsSolution, mass_in}
-use Rattle.hyper_model.specs.declared.kinds.Enclosed.{Enclosed}
+use Rattle.hyper_model.specs.Measures.{IsContained, is_of_region}
+use Rattle.hyper_model.specs.Separation.{IsBelow}
+use Rattle.hyper_model.specs.Solutions.{mass_in}
 use Rattle.hyper_model.specs.declared.kinds.Measure.{Measure}
 use Rattle.hyper_model.specs.declared.parts.PlanParts.{PlanParts}
-use Rattle.hyper_model.proofs.Denominators.{denominator_positive}
-use Rattle.plan_solver.specs.Enclosures.{IsEnclosureOf}
-use Rattle.plan_solver.proofs.AllMeasures.{enclosure_contains}
+use Rattle.hyper_model.specs.declared.values.Value.{Value}
+use Rattle.hyper_model.proofs.MeasureValues.{region_in_range}
+use Rattle.plan_solver.proofs.RegionValues.{region_below, region_value_contains}
 use Rattle.plan_compare.specs.Studies.{StudyParts}
-use Rattle.plan_compare.specs.Truth.{AreTrue, ContainsPlans, IsBelow, IsLess, IsTrueOf, item_at}
-use Rattle.plan_compare.specs.Values.{list_at, value_at, value_in}
+use Rattle.plan_compare.specs.Truth.{AreTrue, ContainsPlans, IsTrueOf, item_at}
+use Rattle.plan_compare.specs.Values.{list_at, value_at}
 use Rattle.plan_compare.specs.Verdicts.{all_pairs, pairs_from, pairs_of, verdict_of, verdict_on, verdicts_of}
-use Rattle.plan_compare.specs.declared.values.Value.{Value}
 use Rattle.plan_compare.specs.declared.verdict_list.Verdict.{Verdict}
 use Rattle.plan_compare.specs.declared.verdict_list.Verdict.TheVariants as verdict
-use Rattle.plan_compare.proofs.RegionValues.{region_contained, region_in_range}
-
--- a high end below a low end
-less : (lo hi low high scale : ℕ) (r s : Ratio) → ContainsRatio lo hi scale r → ContainsRatio low high scale s → hi < low
-    → 0 < r.denominator → 0 < s.denominator → IsLess r s
-less lo hi low high scale r s in_r in_s apart some_r some_s =
-    let a = r.numerator in
-    let b = r.denominator in
-    let c = s.numerator in
-    let d = s.denominator in
-    let upper : scale * a * d ≤ hi * b * d = mul-le-mul_right d in_r.most in
-    let lower : low * d * b ≤ scale * c * b = mul-le-mul_right b in_s.least in
-    let more : hi + 1 ≤ low = omega arith in
-    let gap : (hi + 1) * (b * d) ≤ low * (b * d) = mul-le-mul_right (b * d) more in
-    let some : 0 < b * d = mul-pos some_r some_s in
-    let strict : scale * (a * d) < scale * (c * b) = grind arith in
-    lt_of_mul-lt-mul_left scale strict
-
-contained : (p : PlanParts) (m : Measure) (found : List Enclosed) → is_of_region m ≡ true → IsAccepted p → IsEnclosureOf p found
-    → (xs : List ℕ) (z : ℕ) → IsSolution p xs z
-    → ContainsRatio (value_in m found).lo (value_in m found).hi (scale_of m) (measure_of p (mass_in xs) z m)
-contained p m found region a e xs z s =
-    let each = enclosure_contains p a found e xs z s in
-    subst (λ list. ContainsRatio (value_in m list).lo (value_in m list).hi (scale_of m) (measure_of p (mass_in xs) z m)) (sym e.exact)
-    (region_contained p e.order e.items (mass_in xs) z m region (subst (λ list. All (IsContained p (mass_in xs) z) list) e.exact each))
 
 pub all_contained : (study : StudyParts) (found : List EnclosureList) → All (λ m. is_of_region m ≡ true) study.measures
     → ContainsPlans study found
@@ -55,17 +27,8 @@ all_contained study found region place p a e xs z s =
     All-map (IsContained p (mass_in xs) z) (item_at found place) study.measures
     (λ k d h. (
       (region_in_range p (get_or study.measures k d) (region k d h)).1,
-      contained p (get_or study.measures k d) (list_at found place) (region k d h) a e xs z s,
+      region_value_contains p (get_or study.measures k d) (list_at found place) (region k d h) a e xs z s,
     ))
-
-below : (p q : PlanParts) (m : Measure) (found others : List Enclosed) → is_of_region m ≡ true → IsAccepted p → IsAccepted q
-    → IsEnclosureOf p found → IsEnclosureOf q others → (value_in m found).hi < (value_in m others).lo → IsBelow m p q
-below p q m found others region a b e f apart xs ys z t s u =
-    let of_p = region_in_range p m region in
-    let of_q = region_in_range q m region in
-    less _ _ _ _ (scale_of m) (measure_of p (mass_in xs) z m) (measure_of q (mass_in ys) t m) (contained p m found region a e xs z s)
-    (contained q m others region b f ys t u) apart (denominator_positive p a xs z s m of_p.0 of_p.1)
-    (denominator_positive q b ys t u m of_q.0 of_q.1)
 
 -- what a verdict of ends says
 verdict_true : (m : Measure) (p q : PlanParts) (a b : Value) → (a.hi < b.lo → IsBelow m p q) → (b.hi < a.lo → IsBelow m q p)
@@ -101,5 +64,5 @@ all_true study found verdicts region is k c v at_c at_v p q a b e f =
     let of_region = rw (get_or_from_slice_get (all_pairs study) k c c at_c) at (pairs_region study region k c (slice_get_within (all_pairs study) k c at_c)) in
     subst (IsTrueOf c.measure p q) same
     (verdict_true c.measure p q (value_at found c.measure c.first) (value_at found c.measure c.second)
-    (λ apart. below p q c.measure (list_at found c.first) (list_at found c.second) of_region a b e f apart)
-    (λ apart. below q p c.measure (list_at found c.second) (list_at found c.first) of_region b a f e apart))
+    (λ apart. region_below p q c.measure (list_at found c.first) (list_at found c.second) of_region a b e f apart)
+    (λ apart. region_below q p c.measure (list_at found c.second) (list_at found c.first) of_region b a f e apart))

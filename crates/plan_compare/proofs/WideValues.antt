@@ -9,7 +9,7 @@ use Rattle.plan_compare.specs.Comparisons.{ValuePlace, places_in, end_at, first_
 use Rattle.plan_compare.specs.Values.{value_at}
 use Rattle.plan_compare.specs.declared.ending.CompareEnd.{CompareEnd}
 use Rattle.plan_compare.specs.declared.ending.CompareEnd.TheVariants as end
-use Rattle.plan_compare.specs.declared.values.Value.{Value}
+use Rattle.hyper_model.specs.declared.values.Value.{Value}
 use Rattle.text_lines.proofs.Pieces.{drop_at, range_first}
 
 module _ (widths : Widths) (found : List EnclosureList) where

@@ -14,7 +14,7 @@ use Rattle.plan_compare.specs.Values.{value_at}
 use Rattle.plan_compare.specs.Verdicts.{PlanPair, pairs_of, verdict_of}
 use Rattle.plan_compare.specs.declared.ending.CompareEnd.{CompareEnd}
 use Rattle.plan_compare.specs.declared.ending.CompareEnd.TheVariants as end
-use Rattle.plan_compare.specs.declared.values.Value.{Value}
+use Rattle.hyper_model.specs.declared.values.Value.{Value}
 use Rattle.plan_compare.specs.declared.verdict_list.Verdict.{Verdict}
 use Rattle.plan_compare.specs.declared.verdict_list.Verdict.TheVariants as verdict
 

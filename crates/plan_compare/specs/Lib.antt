@@ -5,4 +5,3 @@ pub mod Values
 pub mod Verdicts
 pub mod Comparisons
 pub mod Truth
-pub mod Enclosing

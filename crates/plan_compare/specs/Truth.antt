@@ -1,9 +1,9 @@
 -- What values and verdicts say of the plans of a study.
-use Rattle.std.specs.Prelude.{◌≡◌, ℕ, ◌*◌, ◌<◌, List, Some, map, slice_get}
+use Rattle.std.specs.Prelude.{◌≡◌, ℕ, List, Some, map, slice_get}
 use Rattle.hyper_model.specs.Enclosures.{EnclosureList}
-use Rattle.hyper_model.specs.Measures.{ContainsSolutions, Ratio, measure_of}
+use Rattle.hyper_model.specs.Measures.{ContainsSolutions}
 use Rattle.hyper_model.specs.Plans.{IsAccepted}
-use Rattle.hyper_model.specs.Solutions.{IsSolution, mass_in}
+use Rattle.hyper_model.specs.Separation.{IsBelow}
 use Rattle.hyper_model.specs.declared.kinds.Enclosed.{Enclosed}
 use Rattle.hyper_model.specs.declared.kinds.Found.TheVariants as found
 use Rattle.hyper_model.specs.declared.kinds.Measure.{Measure}
@@ -28,16 +28,6 @@ abbrev pub ContainsPlans : StudyParts → List EnclosureList → Type 0
 ContainsPlans study lists =
     (place : ℕ) (p : PlanParts) → IsAccepted p → IsEnclosureOf p (list_at lists place)
     → ContainsSolutions p (items_at study lists place)
-
--- by cross-multiplication
-abbrev pub IsLess : Ratio → Ratio → Type 0
-IsLess r s = r.numerator * s.denominator < s.numerator * r.denominator
-
--- in whichever solutions of the two plans, the measure is less in the first
-abbrev pub IsBelow : Measure → PlanParts → PlanParts → Type 0
-IsBelow m p q =
-    (xs ys : List ℕ) (z t : ℕ) → IsSolution p xs z → IsSolution q ys t
-    → IsLess (measure_of p (mass_in xs) z m) (measure_of q (mass_in ys) t m)
 
 abbrev pub IsTrueOf : Measure → PlanParts → PlanParts → Verdict → Type 0
 IsTrueOf m p q verdict.Below = IsBelow m p q

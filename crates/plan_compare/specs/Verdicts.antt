@@ -5,7 +5,7 @@ use Rattle.hyper_model.specs.Enclosures.{EnclosureList}
 use Rattle.hyper_model.specs.declared.kinds.Measure.{Measure}
 use Rattle.plan_compare.specs.Studies.{StudyParts}
 use Rattle.plan_compare.specs.Values.{value_at}
-use Rattle.plan_compare.specs.declared.values.Value.{Value}
+use Rattle.hyper_model.specs.declared.values.Value.{Value}
 use Rattle.plan_compare.specs.declared.verdict_list.Verdict.{Verdict}
 use Rattle.plan_compare.specs.declared.verdict_list.Verdict.TheVariants as verdict
 

@@ -1,7 +1,7 @@
 ghost use Rattle.std.specs.Prelude.{◌≡◌};
-ghost use Rattle.plan_compare.specs.Refusals as spec;
 
 use std::alloc::AllocError;
+use text_lines::RefusalCode;
 use thiserror::Error;
 
 /// Why a text gives no study.
@@ -25,49 +25,19 @@ pub enum StudyRefusal {
     NoMemory,
 }
 
-/// The number and the arguments by which a refusal is reported.
-#[derive(Clone, Copy, Debug)]
-struct RefusalCode {
-    number: u32,
-    /// In order, at most two.
-    arguments: [Option<u64>; 2],
-}
-
-fn code(number: u32, argument: Option<u64>) -> RefusalCode
-    ensures { result ≡ spec.code number argument }
-{
-    RefusalCode {
-        number,
-        arguments: [argument, None],
-    }
-}
-
 impl StudyRefusal {
-    ghost use Rattle.plan_compare.specs.Refusals.{arguments_of, code_of, number_of};
+    ghost use Rattle.plan_compare.specs.Refusals.{code_of};
 
-    /// The number by which the refusal is reported, and 0 for lack of memory.
-    pub fn number(&self) -> u32
-        ensures { result ≡ number_of self.now }
-    {
-        self.code().number
-    }
-
-    /// Its arguments in order, at most two.
-    pub fn arguments(&self) -> [Option<u64>; 2]
-        ensures { result ≡ arguments_of self.now }
-    {
-        self.code().arguments
-    }
-
-    fn code(&self) -> RefusalCode
+    /// The number and the arguments by which the refusal is reported.
+    pub fn code(&self) -> RefusalCode
         ensures { result ≡ code_of self.now }
     {
         match self {
-            StudyRefusal::BadStudy => code(60, None),
-            StudyRefusal::UnknownMeasure(place) => code(61, Some(*place)),
-            StudyRefusal::PlanCount(count) => code(62, Some(*count)),
-            StudyRefusal::StudyTooLong(bytes) => code(63, Some(*bytes)),
-            StudyRefusal::NoMemory => code(0, None),
+            StudyRefusal::BadStudy => RefusalCode::plain(60),
+            StudyRefusal::UnknownMeasure(place) => RefusalCode::of_one(61, *place),
+            StudyRefusal::PlanCount(count) => RefusalCode::of_one(62, *count),
+            StudyRefusal::StudyTooLong(bytes) => RefusalCode::of_one(63, *bytes),
+            StudyRefusal::NoMemory => RefusalCode::plain(0),
         }
     }
 }

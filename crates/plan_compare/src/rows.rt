@@ -4,8 +4,7 @@ ghost use Rattle.plan_compare.specs.Comparisons.{place_field, value_row, verdict
 ghost use Rattle.plan_compare.specs.declared.study.TheConstants.{MOST_PLANS};
 
 use crate::Verdict;
-use crate::values::Value;
-use hyper_model::{Measure, scale};
+use hyper_model::{Measure, Value, scale};
 use std::alloc::AllocError;
 use text_lines::{push_ends, push_number_field, push_text_field};
 

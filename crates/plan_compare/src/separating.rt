@@ -3,9 +3,9 @@ ghost use Rattle.plan_compare.specs.Truth.{AreTrue, ContainsPlans};
 ghost use Rattle.plan_compare.specs.Verdicts as spec;
 ghost use Rattle.plan_compare.specs.Verdicts.{all_pairs, pairs_from, pairs_of, verdict_of, verdicts_of};
 
-use crate::values::{Value, value_at};
+use crate::values::value_at;
 use crate::{Study, Verdict, VerdictList};
-use hyper_model::{Enclosures, Measure};
+use hyper_model::{Enclosures, Measure, Value};
 
 /// The verdicts of a study over the lists of its plans' measures, in the order of the plans.
 ///

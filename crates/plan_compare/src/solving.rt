@@ -1,6 +1,6 @@
 ghost use Rattle.std.specs.Prelude.{◌≡◌, ◌+◌, ◌≤◌, ◌<◌, ◌^◌, length, IfOk};
 ghost use Rattle.std.specs.Thread.{IsSync};
-ghost use Rattle.plan_compare.specs.Enclosing.{AreEnclosuresOf};
+ghost use Rattle.plan_solver.specs.Enclosures.{AreEnclosuresOf};
 
 use hyper_model::{Enclosures, Plan};
 use plan_solver::enclose_with;

@@ -1,42 +1,9 @@
-ghost use Rattle.std.specs.Prelude.{◌≡◌, ◌<◌, ◌≤◌, length, IfSome};
-ghost use Rattle.hyper_model.specs.Enclosures.{IsOrderedEnclosed};
+ghost use Rattle.std.specs.Prelude.{◌≡◌, ◌<◌, ◌≤◌, length};
 ghost use Rattle.plan_compare.specs.Values as spec;
 
-use hyper_model::{Enclosed, Enclosures, Found, Measure};
+use hyper_model::{Enclosures, Measure, Value, value_in};
 
-/// The ends between which a measure of a plan lies, in units of its last printed digit.
-#[derive(Clone, Copy, Debug, PartialEq, Eq)]
-pub(crate) struct Value {
-    pub(crate) lo: u64,
-    pub(crate) hi: u64,
-}
-
-/// What an item says of a measure.
-fn value_of(item: Enclosed, measure: Measure) -> Option<Value>
-    requires { IsOrderedEnclosed item }
-    ensures value { result ≡ spec.value_of measure item }
-    ensures ordered { IfSome result (λ value. value.lo ≤ value.hi) }
-{
-    match item.found {
-        Found::Ends(lo, hi) if item.measure == measure => Some(Value { lo, hi }),
-        _ => None,
-    }
-}
-
-/// The ends that a plan's list has for a measure, or 0 and 0 if the plan's line has no such measure.
-fn value_in(list: &Enclosures, measure: Measure) -> Value
-    ensures value { result ≡ spec.value_in measure list.now.items }
-    ensures ordered { result.lo ≤ result.hi }
-{
-    for place in 0..list.len() {
-        if let Some(value) = value_of(list.get(place), measure) {
-            return value;
-        }
-    }
-    Value { lo: 0, hi: 0 }
-}
-
-/// The same, of the list at this place, counted from 0.
+/// The ends that the list at this place, counted from 0, has for a measure.
 pub(crate) fn value_at(found: &[Enclosures], measure: Measure, place: usize) -> Value
     requires { place < length found.now }
     ensures value { result ≡ spec.value_at found.now measure place }

@@ -2,9 +2,9 @@ ghost use Rattle.std.specs.Prelude.{◌≡◌, ◌<◌, ◌≤◌, false, None, 
 ghost use Rattle.plan_compare.specs.declared.study.TheConstants.{MOST_PLANS};
 ghost use Rattle.plan_compare.specs.Comparisons.{first_wide_of, is_wide_value, places_in, value_places};
 
-use crate::values::{Value, value_at};
+use crate::values::value_at;
 use crate::{CompareEnd, Study};
-use hyper_model::{Enclosed, Enclosures, Found, Measure};
+use hyper_model::{Enclosed, Enclosures, Found, Measure, Value};
 use report_text::{Widths, is_too_wide};
 
 /// Ends at the first value that is too wide, plan by plan.

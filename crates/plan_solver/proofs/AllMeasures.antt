@@ -34,6 +34,10 @@ use Rattle.plan_solver.specs.PlanWeights.{ArePlanWeights, AreWeightsOn, last_ent
 use Rattle.plan_solver.specs.Enclosures.{IsEnclosureOf, dispatches_of, measures_of}
 use Rattle.plan_solver.proofs.PlanChains.{encloses}
 
+-- a list that was read has room if the list that it is has
+pub read_fits : (items list : List Enclosed) (most : ℕ) → items ≡ list → length list ≤ most → length items ≤ most
+read_fits items list most is fits = rw is fits
+
 -- how many there are of each kind
 pub workloads_fit : (p : PlanParts) → IsAccepted p → (order : WordOrder) (items : List Ends)
     → length (workloads_of p order items) ≤ MOST_UNITS
@@ -131,11 +135,17 @@ one_weights line.Infinite p order items others are again =
     subst (λ b. GainsTail (all_calls p) (all_service p) b others) before again.2 in
     pushed-one are.0 others items (tail_weight (all_calls p) (all_service p) (ends_at are.0 (length are.0 - 1))) gains are.2
 
+pub one_weighing : (p : PlanParts) (order other : WordOrder) (items others : List Ends) → ArePlanWeights p order items
+    → ArePlanWeights p other others → (other ≡ order) × (others ≡ items)
+one_weighing p order other items others are again =
+    let same : other ≡ order = one_order p order other are.ordered again.ordered in (
+      same,
+      one_weights p.line p order items others are.weights
+          (subst (λ o. AreWeightsOn p.line p o others) same again.weights),
+    )
+
 pub one_enclosure : (p : PlanParts) (found others : List Enclosed) → IsEnclosureOf p found → IsEnclosureOf p others
     → others ≡ found
 one_enclosure p found others is again =
-    let order : again.order ≡ is.order = one_order p is.order again.order is.weights.ordered again.weights.ordered in
-    let weights : AreWeightsOn p.line p is.order again.items =
-    subst (λ o. AreWeightsOn p.line p o again.items) order again.weights.weights in
-    let items : again.items ≡ is.items = one_weights p.line p is.order is.items again.items is.weights.weights weights in
-    again.exact ∙ ap (λ o. measures_of p o again.items) order ∙ ap (measures_of p is.order) items ∙ sym is.exact
+    let same = one_weighing p is.order again.order is.items again.items is.weights again.weights in
+    again.exact ∙ ap (λ o. measures_of p o again.items) same.0 ∙ ap (measures_of p is.order) same.1 ∙ sym is.exact

@@ -1,7 +1,9 @@
 -- The measures of a plan with their ends, in the order in which a report prints them.
 use Rattle.std.specs.Prelude.{◌≡◌, List, ◌++◌}
+use Rattle.std.specs.List.{AllZip}
 use Rattle.fixed_interval.specs.Ends.{Ends}
 use Rattle.fixed_interval.specs.WeightList.{ends_at}
+use Rattle.hyper_model.specs.Enclosures.{EnclosureList}
 use Rattle.hyper_model.specs.declared.kinds.Enclosed.{Enclosed}
 use Rattle.hyper_model.specs.declared.parts.PlanParts.{PlanParts}
 use Rattle.busy_words.specs.Order.{WordOrder}
@@ -26,3 +28,7 @@ pub record IsEnclosureOf (p : PlanParts) (found : List Enclosed) : Type 0 where
   pub items : List Ends
   pub weights : ArePlanWeights p order items
   pub exact : found ≡ measures_of p order items
+
+-- for each plan, in order, the one list of its measures with the ends of the method
+abbrev pub AreEnclosuresOf : List PlanParts → List EnclosureList → Type 0
+AreEnclosuresOf plans found = AllZip (λ p list. IsEnclosureOf p list.items) plans found

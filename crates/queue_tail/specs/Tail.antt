@@ -1,8 +1,17 @@
--- The tail: one more weight, for all states in which a call waits.
+-- A further weight that is a multiple of the last one, and the tail, which is one: the weight of all states in which a
+-- call waits.
 use Rattle.std.specs.Prelude.{◌≡◌, ℕ, ◌-◌, ◌*◌, List, length}
 use Rattle.fixed_interval.specs.Ends.{Ends, ratio_ends}
 use Rattle.fixed_interval.specs.WeightList.{PushesShifted, ends_at}
 use Rattle.hyper_model.specs.Solutions.{mass_in}
+
+-- num / den times the last weight goes after the others, with the same shift for all
+abbrev pub GainsMultiple : ℕ → ℕ → List Ends → List Ends → Type 0
+GainsMultiple num den old new = PushesShifted old new (ratio_ends (ends_at old (length old - 1)) num den)
+
+-- z is num / den times the last of the masses
+abbrev pub IsMultipleOf : ℕ → ℕ → List ℕ → ℕ → Type 0
+IsMultipleOf num den masses z = den * z ≡ num * mass_in masses (length masses - 1)
 
 -- calls wait with calls / (service - calls) times the mass of the word in which all units are busy
 abbrev pub tail_weight : ℕ → ℕ → Ends → Ends

@@ -7,7 +7,7 @@ use Rattle.std.proofs.lemmas.Nat.{div-mul-add, mod-mul-add}
 use Rattle.fixed_interval.specs.Ends.{Ends, exact_ends}
 use Rattle.hyper_model.proofs.Sums.{on_test, sum-le}
 use Rattle.rate_matrix.specs.Elimination.{IsWithin, IsLive}
-use Rattle.rate_matrix.specs.Bands.{BandOfRows, BandedRates, HasRow, HasColumn, HasSameShape, IsKept, IsBanded, IsSound, no_band, has_column, place_in, band_entry, band_at, band_of, entry, cap}
+use Rattle.rate_matrix.specs.Bands.{BandOfRows, BandedRates, HasRow, HasColumn, HasSameFrame, HasSameShape, IsKept, IsBanded, IsSound, no_band, has_column, place_in, band_entry, band_at, band_of, entry, cap}
 
 pub has_column_true : (b : BandOfRows) (j : ℕ) → HasColumn b j → has_column b j ≡ true
 has_column_true b j h = let from = h.from in let to = h.to in grind (arith, nat_tests)
@@ -86,6 +86,20 @@ at_other_cell b i j p q v r c rp ne = on_test (has_column b q)
 -- a matrix with other bands
 abbrev pub with_bands : BandedRates → List BandOfRows → BandedRates
 with_bands m bs = record m { bands = bs }
+
+-- with other bands of the same shape, and so many states alive, a matrix has the same frame
+pub framed : (m : BandedRates) (bs : List BandOfRows) (alive : ℕ) → length bs ≡ length m.bands
+    → ((l : ℕ) → HasSameShape (band_at m l) (band_at (with_bands m bs) l))
+    → HasSameFrame m (record m { alive = alive; bands = bs })
+framed m bs alive count shape = record {
+  size = refl;
+  scale = refl;
+  packed = refl;
+  outflows = refl;
+  levels = refl;
+  count = count;
+  shape = shape;
+}
 
 -- the same rows and columns
 pub shape_row : (b c : BandOfRows) (i : ℕ) → HasSameShape b c → HasRow b i → HasRow c i

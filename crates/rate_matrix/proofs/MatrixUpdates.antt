@@ -1,5 +1,5 @@
 -- A matrix before and after the elimination of a state.
-use Rattle.std.proofs.Common.{◌≡◌, ◌≢◌, ℕ, ◌<◌, ◌≤◌, List, length, get_or, slice_index, refl, sym, ap, subst, ◌∙◌, inl, inr, arith}
+use Rattle.std.proofs.Common.{◌≡◌, ◌≢◌, ℕ, ◌<◌, ◌≤◌, List, length, get_or, slice_index, sym, ap, subst, ◌∙◌, inl, inr, arith}
 use Rattle.std.proofs.lemmas.Bool.{cases_lt, cases_eq}
 use Rattle.std.proofs.lemmas.List.{get_or_past}
 use Rattle.fixed_interval.specs.Ends.{Ends, exact_ends}
@@ -8,7 +8,7 @@ use Rattle.rate_matrix.specs.Bands.{BandOfRows, BandedRates, HasRow, HasColumn, 
 use Rattle.rate_matrix.specs.Rows.{CanUpdate, IsUpdated, OneElimination, part_in}
 use Rattle.rate_matrix.proofs.Raising.{is_raised-from, is_raised-to, is_raised-itself, raised_entries-before, raised_entries-stays, raised_entry-capped, raised_entry-grows}
 use Rattle.rate_matrix.proofs.RowsOfBand.{raised_entries-alike}
-use Rattle.rate_matrix.proofs.BandLemmas.{band_entry_kept, entry_is, same_shape, sound_changed, with_bands}
+use Rattle.rate_matrix.proofs.BandLemmas.{band_entry_kept, entry_is, framed, same_shape, sound_changed, with_bands}
 
 -- no entry that is raised goes past its cap, and none falls
 pub raised_entries-within : (parts : ℕ → Ends) (a : Entries) (caps : ℕ → ℕ) (t i j : ℕ) → (a i j).lo ≤ (a i j).hi → (a i j).hi ≤ caps i
@@ -87,15 +87,7 @@ module _ (m : BandedRates) (parts : List Ends) (s : IsSound m) (gone : m.alive <
     ]
 
     pub same_frame : HasSameFrame m (with_bands m bs)
-    same_frame = record {
-      size = refl;
-      scale = refl;
-      packed = refl;
-      outflows = refl;
-      levels = refl;
-      count = count;
-      shape = shapes;
-    }
+    same_frame = framed m bs m.alive count shapes
 
     pub update_sound : IsSound (with_bands m bs)
     update_sound = sound_changed m bs s count shapes (λ l h. (done l h).count)

@@ -16,6 +16,12 @@ use Rattle.rate_matrix.proofs.BandLemmas.{has_column_true, shape_column}
 use Rattle.rate_matrix.proofs.LevelRanks.{Rises, level_band_is, level_kept, levels_banded}
 use Rattle.rate_matrix.proofs.WordChains.{far_words}
 
+-- the bands, by the levels and the number of units that were read
+pub bands_read : (p : PlanParts) (levels read : List ℕ) (n : ℕ) (bands : List BandOfRows) → read ≡ levels → n ≡ units p
+    → AreBandsOf read (n + 1) bands → AreBandsOf levels (units p + 1) bands
+bands_read p levels read n bands same_levels same_units are =
+    subst (λ l. AreBandsOf l (units p + 1) bands) same_levels (subst (λ k. AreBandsOf read (k + 1) bands) same_units are)
+
 module _ (p : PlanParts) (order : WordOrder) (h : IsInOrder (units p) order.words) (levels : List ℕ)
     (count : length levels ≡ words p)
     (told : (i : ℕ) → i < words p → slice_index levels i ≡ rank_level p order i)

@@ -7,7 +7,8 @@ use Rattle.hyper_model.specs.Plans.{units, IsAccepted}
 use Rattle.hyper_model.specs.Words.{words, is_busy, turned_word}
 use Rattle.hyper_model.specs.Laws.{level}
 use Rattle.hyper_model.specs.Solutions.{mass_in, SolvesWords}
-use Rattle.hyper_model.specs.Tables.{RateTable, Descends, IsTableSolution, between_states, word_table, AreInverse}
+use Rattle.hyper_model.specs.Sums.{sum_below}
+use Rattle.hyper_model.specs.Tables.{RateTable, Descends, IsTableSolution, SolvesTable, between_states, word_table, AreInverse, relabelled}
 use Rattle.hyper_model.proofs.Sums.{on_test, sum-le}
 use Rattle.hyper_model.proofs.Bits.{busy_exists, turned_lt}
 use Rattle.hyper_model.proofs.Levels.{level_down, level_up}
@@ -26,35 +27,38 @@ pub ordered_words : (p : PlanParts) (order : WordOrder) → order.units ≡ unit
     → IsInOrder (units p) order.words
 ordered_words p order e h = subst (λ n. IsInOrder n order.words) e h
 
-module _ (p : PlanParts) (order : WordOrder) (accepted : IsAccepted p) (h : IsInOrder (units p) order.words) where
-  pub inverse : AreInverse (words p) (word_at order) (rank_of (units p))
-  inverse = words_inverse (units p) order.words h
+-- the words of so many units by rank, whatever the rates between them
+module _ (n : ℕ) (order : WordOrder) (h : IsInOrder n order.words) where
+  pub inverse : AreInverse (2 ^ n) (word_at order) (rank_of n)
+  inverse = words_inverse n order.words h
 
-  first_none : (m : ℕ) → m < words p → 0 < m → 0 < word_at order m
+  first_none : (m : ℕ) → m < 2 ^ n → 0 < m → 0 < word_at order m
   first_none m l pos = elim (cases_lt 0 (word_at order m)) [
     | inl k ↦ k
     | inr k ↦
-        let zero_word : word_at order m ≡ word_at order 0 = (let z : word_at order m ≡ 0 = omega arith in z) ∙ sym (first_word (units p) order.words h) in
-        let same : m ≡ 0 = words_apart (units p) order.words h m 0 l (omega arith) zero_word in
+        let zero_word : word_at order m ≡ word_at order 0 = (let z : word_at order m ≡ 0 = omega arith in z) ∙ sym (first_word n order.words h) in
+        let same : m ≡ 0 = words_apart n order.words h m 0 l (omega arith) zero_word in
         absurd (omega arith)
   ]
 
-  pub chain_descends : Descends (words p) (word_rates p order)
-  chain_descends m pos l =
-      let v = word_at order m in
-      let below : word_at order m < 2 ^ units p = h.within m l in
-      let n = busy_exists (units p) (word_at order m) below (first_none m l pos) in
-      let next : turned_word (word_at order m) n.0 < 2 ^ units p = turned_lt (units p) (word_at order m) n.0 below n.1 in
-      let to = rank_of (units p) (turned_word (word_at order m) n.0) in
-      let to_word : word_at order (rank_of (units p) (turned_word (word_at order m) n.0)) ≡ turned_word (word_at order m) n.0 = inverse.to_back (turned_word (word_at order m) n.0) next in (
-        rank_of (units p) (turned_word (word_at order m) n.0),
-        elim (cases_lt (rank_of (units p) (turned_word (word_at order m) n.0)) m) [
+  -- each word but the first has a rate to an earlier one, if each busy unit ends its service
+  pub ranks_descend : (rate : RateTable) → ((v i : ℕ) → i < n → is_busy v i ≡ true → 0 < rate v (turned_word v i))
+      → Descends (2 ^ n) (relabelled (word_at order) rate)
+  ranks_descend rate ends m pos l =
+      let below : word_at order m < 2 ^ n = h.within m l in
+      let i = busy_exists n (word_at order m) below (first_none m l pos) in
+      let next : turned_word (word_at order m) i.0 < 2 ^ n = turned_lt n (word_at order m) i.0 below i.1 in
+      let to_word : word_at order (rank_of n (turned_word (word_at order m) i.0)) ≡ turned_word (word_at order m) i.0 =
+      inverse.to_back (turned_word (word_at order m) i.0) next in (
+        rank_of n (turned_word (word_at order m) i.0),
+        elim (cases_lt (rank_of n (turned_word (word_at order m) i.0)) m) [
           | inl k ↦ k
           | inr k ↦
-              let rises = levels_rise (units p) order.words h m (rank_of (units p) (turned_word (word_at order m) n.0)) k (inverse.back_below (turned_word (word_at order m) n.0) next) in
-              absurd (omega (arith, rises, ap (level (units p)) to_word, level_down (units p) (word_at order m) n.0 n.1 n.2))
+              let rises = levels_rise n order.words h m (rank_of n (turned_word (word_at order m) i.0)) k
+              (inverse.back_below (turned_word (word_at order m) i.0) next) in
+              absurd (omega (arith, rises, ap (level n) to_word, level_down n (word_at order m) i.0 i.1 i.2))
         ],
-        subst (λ w. 0 < word_table p (word_at order m) w) (sym to_word) (service_positive p accepted (word_at order m) n.0 n.1 n.2),
+        subst (λ w. 0 < rate (word_at order m) w) (sym to_word) (ends (word_at order m) i.0 i.1 i.2),
       )
 
   fewer_between : (rate : RateTable) (i j : ℕ) → between_states rate i j ≤ rate i j
@@ -64,30 +68,47 @@ module _ (p : PlanParts) (order : WordOrder) (accepted : IsAccepted p) (h : IsIn
       at_most true k = omega arith
       at_most false k = omega arith
 
-  pub chain_bounded : (i : ℕ) → i < words p → outflow_of (words p) (word_rates p order) i ≤ word_top p
-  chain_bounded i l =
+  -- no rank is left faster than its word
+  pub ranks_bounded : (rate : RateTable) (top : ℕ) → ((v : ℕ) → v < 2 ^ n → sum_below (2 ^ n) (rate v) ≤ top)
+      → (i : ℕ) → i < 2 ^ n → outflow_of (2 ^ n) (relabelled (word_at order) rate) i ≤ top
+  ranks_bounded rate top most i l =
       omega (
         arith,
-        sum-le (words p) (between_states (word_rates p order) i) (word_rates p order i) (λ j k. fewer_between (word_rates p order) i j),
-        sum_relabelled (words p) (word_at order) (rank_of (units p)) (word_table p (word_at order i)) inverse,
-        leaving_row p accepted (word_at order i) (h.within i l),
-        leaving_le p (word_at order i),
+        sum-le (2 ^ n) (between_states (relabelled (word_at order) rate) i) (relabelled (word_at order) rate i)
+            (λ j k. fewer_between (relabelled (word_at order) rate) i j),
+        sum_relabelled (2 ^ n) (word_at order) (rank_of n) (rate (word_at order i)) inverse,
+        most (word_at order i) (h.within i l),
       )
 
-  by_rank_at : (xs : List ℕ) (i : ℕ) → i < words p → mass_in (by_rank order xs) i ≡ mass_in xs (word_at order i)
+  pub by_rank_at : (xs : List ℕ) (i : ℕ) → i < 2 ^ n → mass_in (by_rank order xs) i ≡ mass_in xs (word_at order i)
   by_rank_at xs i l = get_or-map (mass_in xs) order.words i 0 0 (omega (arith, h.one_each))
+
+  -- masses by rank solve if those by number do
+  pub ranks_solve : (rate : RateTable) (xs : List ℕ) → SolvesTable (2 ^ n) rate (mass_in xs)
+      → IsTableSolution (2 ^ n) (relabelled (word_at order) rate) (by_rank order xs)
+  ranks_solve rate xs s = record {
+    one_each = length-map order.words (mass_in xs) ∙ h.one_each;
+    solves = solves_alike (2 ^ n) (relabelled (word_at order) rate) (λ i. mass_in xs (word_at order i)) (mass_in (by_rank order xs))
+        (by_rank_at xs) (renumbered (2 ^ n) (word_at order) (rank_of n) rate (mass_in xs) inverse s);
+  }
+
+module _ (p : PlanParts) (order : WordOrder) (accepted : IsAccepted p) (h : IsInOrder (units p) order.words) where
+  pub chain_descends : Descends (words p) (word_rates p order)
+  chain_descends = ranks_descend (units p) order h (word_table p) (service_positive p accepted)
+
+  pub chain_bounded : (i : ℕ) → i < words p → outflow_of (words p) (word_rates p order) i ≤ word_top p
+  chain_bounded =
+      ranks_bounded (units p) order h (word_table p) (word_top p)
+      (λ v l. omega (arith, leaving_row p accepted v l, leaving_le p v))
 
   pub chain_balance : (xs : List ℕ) → length xs ≡ words p
       → SolvesWords p xs ↔ IsTableSolution (words p) (word_rates p order) (by_rank order xs)
   chain_balance xs one_each = (
-    λ s. record {
-      one_each = length-map order.words (mass_in xs) ∙ h.one_each;
-      solves = solves_alike (words p) (word_rates p order) (λ i. mass_in xs (word_at order i)) (mass_in (by_rank order xs)) (by_rank_at xs)
-          (renumbered (words p) (word_at order) (rank_of (units p)) (word_table p) (mass_in xs) inverse (solves_word_table p accepted xs s));
-    },
+    λ s. ranks_solve (units p) order h (word_table p) xs (solves_word_table p accepted xs s),
     λ s. table_solves_words p accepted xs one_each
-        (renumbered_back (words p) (word_at order) (rank_of (units p)) (word_table p) (mass_in xs) inverse
-        (solves_alike (words p) (word_rates p order) (mass_in (by_rank order xs)) (λ i. mass_in xs (word_at order i)) (λ i l. sym (by_rank_at xs i l)) s.solves)),
+        (renumbered_back (words p) (word_at order) (rank_of (units p)) (word_table p) (mass_in xs) (inverse (units p) order h)
+        (solves_alike (words p) (word_rates p order) (mass_in (by_rank order xs)) (λ i. mass_in xs (word_at order i))
+        (λ i l. sym (by_rank_at (units p) order h xs i l)) s.solves)),
   )
 
 -- only one unit changes from a word to another with a rate

@@ -1,4 +1,4 @@
-ghost use Rattle.std.specs.Prelude.{◌≡◌, ℕ, ◌<◌, ◌≤◌, true, length, slice_index_or};
+ghost use Rattle.std.specs.Prelude.{◌≡◌, ℕ, ◌<◌, ◌≤◌, length, slice_index_or};
 ghost use Rattle.fixed_interval.specs.Ends.{exact_ends};
 ghost use Rattle.rate_matrix.specs.Bands.{HasSameFrame, IsKept, cap, entry, no_band};
 ghost use Rattle.rate_matrix.specs.Elimination.{raised_entries};
@@ -27,7 +27,6 @@ impl RateMatrix {
         gate: &G,
         place: usize,
     )
-        requires packed { self.old.packed ≡ true }
         requires eliminated { self.old.alive < self.old.size }
         requires some { 1 ≤ workers }
         requires most { workers ≤ 16 }
@@ -52,7 +51,6 @@ impl RateMatrix {
 
     /// The same change as that of `update_rows`, without threads: one row after the other.
     pub fn update_rows_alone(&mut self, parts: &[Iv])
-        requires packed { self.old.packed ≡ true }
         requires eliminated { self.old.alive < self.old.size }
         requires parts { self.old.alive ≤ length parts.now }
         requires kept { (j : ℕ) → j < self.old.alive → ¬ IsKept self.old self.old.alive j

@@ -4,19 +4,11 @@ use Rattle.fixed_interval.specs.Ends.{Ends, exact_ends}
 use Rattle.rate_matrix.specs.Bands.{BandedRates, HasColumn, HasSameFrame, IsKept, band_at, band_of, cap, entry}
 use Rattle.rate_matrix.specs.Elimination.{part_to}
 use Rattle.rate_matrix.specs.Rows.{part_in}
-use Rattle.rate_matrix.proofs.BandLemmas.{band_entry_zero, entry_is, same_shape, shape_column}
+use Rattle.rate_matrix.proofs.BandLemmas.{band_entry_zero, entry_is, framed, same_shape, shape_column}
 use Rattle.state_reduction.proofs.FarZeros.{part_to-nothing}
 
 pub frame-none : (m : BandedRates) → HasSameFrame m m
-frame-none m = record {
-  size = refl;
-  scale = refl;
-  packed = refl;
-  outflows = refl;
-  levels = refl;
-  count = refl;
-  shape = λ l. same_shape (band_at m l);
-}
+frame-none m = framed m m.bands m.alive refl (λ l. same_shape (band_at m l))
 
 pub frame-more : (a b c : BandedRates) → HasSameFrame a b → HasSameFrame b c → HasSameFrame a c
 frame-more a b c first second = record {
@@ -49,15 +41,7 @@ kept-same a b frame i j kept =
 -- one state less is alive
 pub fewer-frame : (m n : BandedRates) → n ≡ record m { alive = m.alive - 1 } → HasSameFrame m n
 fewer-frame m n is =
-    subst (HasSameFrame m) (sym is) (record {
-      size = refl;
-      scale = refl;
-      packed = refl;
-      outflows = refl;
-      levels = refl;
-      count = refl;
-      shape = λ l. same_shape (band_at m l);
-    })
+    subst (HasSameFrame m) (sym is) (framed m m.bands (m.alive - 1) refl (λ l. same_shape (band_at m l)))
 
 fewer_entry : (m : BandedRates) (i j : ℕ) → entry (record m { alive = m.alive - 1 }) i j ≡ entry m i j
 unfolding entry

@@ -1,7 +1,7 @@
 ghost use Rattle.std.specs.Prelude.{◌≡◌, ◌≤◌, false, true, length};
 ghost use Rattle.state_reduction.specs.Reductions.{IsReduced, MayBeReduced};
 
-use crate::elimination::{step, step_by_workers, step_packed};
+use crate::elimination::{step, step_by_workers};
 use crate::row::Row;
 use rate_matrix::{Gate, RateMatrix};
 use std::thread::Threads;
@@ -31,7 +31,7 @@ pub fn reduce_packed(m: &mut RateMatrix, scratch: &mut Row)
 {
     let _size = m.size();
     while m.alive() > 1 {
-        step_packed(m, scratch);
+        step(m, scratch);
     }
 }
 

@@ -1,6 +1,6 @@
 use Rattle.std.proofs.Common.{rules}
-use Rattle.plan_compare.specs.Enclosing.{AreEnclosuresOf}
-use Rattle.plan_compare.proofs.SolvedPlans.{put_together}
+use Rattle.plan_solver.specs.Enclosures.{AreEnclosuresOf}
+use Rattle.plan_solver.proofs.SolvedPlans.{put_together}
 use Rattle.plan_compare.proofs.solving.+halves.Goals as goal
 
 pub returns : goal.returns

@@ -1,4 +1,4 @@
-use Rattle.plan_compare.proofs.SolvedPlans.{one_more}
+use Rattle.plan_solver.proofs.SolvedPlans.{one_more}
 use Rattle.plan_compare.proofs.solving.enclose_in_turn.Goals as goal
 
 pub loop-k-preserved : goal.loop-k-preserved

@@ -5,7 +5,7 @@ use Rattle.std.proofs.lemmas.List.Elements.{All-push}
 use Rattle.hyper_model.specs.Measures.{is_of_region, measure_named}
 use Rattle.plan_compare.specs.declared.refusal.StudyRefusal.TheVariants as refusal
 use Rattle.plan_compare.proofs.FirstPlaces.{position_is, position_none, filter_map_next}
-use Rattle.plan_compare.proofs.RegionValues.{of_region_measure}
+use Rattle.hyper_model.proofs.MeasureValues.{of_region_measure}
 use Rattle.plan_compare.proofs.study.measures_named.Goals as goal
 
 pub returns-in_default-clause-unknown : goal.returns-in_default-clause-unknown

@@ -1,5 +1,5 @@
-use Rattle.std.proofs.Common.{◌∙◌, length, ap, arith}
-use Rattle.plan_solver.proofs.AllMeasures.{fractions_fit, shares_fit}
+use Rattle.std.proofs.Common.{◌∙◌, arith}
+use Rattle.plan_solver.proofs.AllMeasures.{fractions_fit, read_fits, shares_fit}
 use Rattle.plan_solver.proofs.measuring.push_dispatches.Goals as goal
 
 pub push_all-requires-clause-room : goal.push_all-requires-clause-room
@@ -7,8 +7,7 @@ push_all-requires-clause-room c =
     omega (
       arith,
       c.requires.room,
-      ap (λ (es : _). length es) (c.deref.ensures.value ∙ c.in_ok-fractions.ensures.exact),
-      fractions_fit c.args.plan.now c.law_accepted.ensures c.args.parts.now,
+      read_fits _ _ _ (c.deref.ensures.value ∙ c.in_ok-fractions.ensures.exact) (fractions_fit c.args.plan.now c.law_accepted.ensures c.args.parts.now),
     )
 
 pub push_all-requires-2-clause-room : goal.push_all-requires-2-clause-room
@@ -17,10 +16,8 @@ push_all-requires-2-clause-room c =
       arith,
       c.requires.room,
       c.push_all.ensures.room,
-      ap (λ (es : _). length es) (c.deref.ensures.value ∙ c.in_ok-fractions.ensures.exact),
-      fractions_fit c.args.plan.now c.law_accepted.ensures c.args.parts.now,
-      ap (λ (es : _). length es) (c.deref-2.ensures.value ∙ c.in_ok-interdistrict.ensures.exact),
-      shares_fit c.args.plan.now c.law_accepted.ensures c.args.parts.now,
+      read_fits _ _ _ (c.deref.ensures.value ∙ c.in_ok-fractions.ensures.exact) (fractions_fit c.args.plan.now c.law_accepted.ensures c.args.parts.now),
+      read_fits _ _ _ (c.deref-2.ensures.value ∙ c.in_ok-interdistrict.ensures.exact) (shares_fit c.args.plan.now c.law_accepted.ensures c.args.parts.now),
     )
 
 pub returns-clause-room : goal.returns-clause-room
@@ -29,8 +26,6 @@ returns-clause-room c =
       arith,
       c.push_all.ensures.room,
       c.push_all-2.ensures.room,
-      ap (λ (es : _). length es) (c.deref.ensures.value ∙ c.in_ok-fractions.ensures.exact),
-      fractions_fit c.args.plan.now c.law_accepted.ensures c.args.parts.now,
-      ap (λ (es : _). length es) (c.deref-2.ensures.value ∙ c.in_ok-interdistrict.ensures.exact),
-      shares_fit c.args.plan.now c.law_accepted.ensures c.args.parts.now,
+      read_fits _ _ _ (c.deref.ensures.value ∙ c.in_ok-fractions.ensures.exact) (fractions_fit c.args.plan.now c.law_accepted.ensures c.args.parts.now),
+      read_fits _ _ _ (c.deref-2.ensures.value ∙ c.in_ok-interdistrict.ensures.exact) (shares_fit c.args.plan.now c.law_accepted.ensures c.args.parts.now),
     )

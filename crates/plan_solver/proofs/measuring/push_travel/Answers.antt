@@ -1,5 +1,5 @@
-use Rattle.std.proofs.Common.{◌∙◌, length, ap, arith}
-use Rattle.plan_solver.proofs.AllMeasures.{atom_times_fit, unit_times_fit, district_times_fit}
+use Rattle.std.proofs.Common.{◌∙◌, arith}
+use Rattle.plan_solver.proofs.AllMeasures.{atom_times_fit, district_times_fit, read_fits, unit_times_fit}
 use Rattle.plan_solver.proofs.measuring.push_travel.Goals as goal
 
 pub push_all-requires-clause-room : goal.push_all-requires-clause-room
@@ -8,8 +8,7 @@ push_all-requires-clause-room c =
       arith,
       c.requires.room,
       c.push.ensures.spare,
-      ap (λ (es : _). length es) (c.deref.ensures.value ∙ c.in_ok-atom_times.ensures.exact),
-      atom_times_fit c.args.plan.now c.law_accepted.ensures c.args.parts.now,
+      read_fits _ _ _ (c.deref.ensures.value ∙ c.in_ok-atom_times.ensures.exact) (atom_times_fit c.args.plan.now c.law_accepted.ensures c.args.parts.now),
     )
 
 pub push_all-requires-2-clause-room : goal.push_all-requires-2-clause-room
@@ -19,10 +18,8 @@ push_all-requires-2-clause-room c =
       c.requires.room,
       c.push.ensures.spare,
       c.push_all.ensures.room,
-      ap (λ (es : _). length es) (c.deref.ensures.value ∙ c.in_ok-atom_times.ensures.exact),
-      atom_times_fit c.args.plan.now c.law_accepted.ensures c.args.parts.now,
-      ap (λ (es : _). length es) (c.deref-2.ensures.value ∙ c.in_ok-unit_times.ensures.exact),
-      unit_times_fit c.args.plan.now c.law_accepted.ensures c.args.parts.now,
+      read_fits _ _ _ (c.deref.ensures.value ∙ c.in_ok-atom_times.ensures.exact) (atom_times_fit c.args.plan.now c.law_accepted.ensures c.args.parts.now),
+      read_fits _ _ _ (c.deref-2.ensures.value ∙ c.in_ok-unit_times.ensures.exact) (unit_times_fit c.args.plan.now c.law_accepted.ensures c.args.parts.now),
     )
 
 pub push_all-requires-3-clause-room : goal.push_all-requires-3-clause-room
@@ -33,10 +30,7 @@ push_all-requires-3-clause-room c =
       c.push.ensures.spare,
       c.push_all.ensures.room,
       c.push_all-2.ensures.room,
-      ap (λ (es : _). length es) (c.deref.ensures.value ∙ c.in_ok-atom_times.ensures.exact),
-      atom_times_fit c.args.plan.now c.law_accepted.ensures c.args.parts.now,
-      ap (λ (es : _). length es) (c.deref-2.ensures.value ∙ c.in_ok-unit_times.ensures.exact),
-      unit_times_fit c.args.plan.now c.law_accepted.ensures c.args.parts.now,
-      ap (λ (es : _). length es) (c.deref-3.ensures.value ∙ c.in_ok-district_times.ensures.exact),
-      district_times_fit c.args.plan.now c.law_accepted.ensures c.args.parts.now,
+      read_fits _ _ _ (c.deref.ensures.value ∙ c.in_ok-atom_times.ensures.exact) (atom_times_fit c.args.plan.now c.law_accepted.ensures c.args.parts.now),
+      read_fits _ _ _ (c.deref-2.ensures.value ∙ c.in_ok-unit_times.ensures.exact) (unit_times_fit c.args.plan.now c.law_accepted.ensures c.args.parts.now),
+      read_fits _ _ _ (c.deref-3.ensures.value ∙ c.in_ok-district_times.ensures.exact) (district_times_fit c.args.plan.now c.law_accepted.ensures c.args.parts.now),
     )

@@ -1,4 +1,4 @@
-use Rattle.std.proofs.Common.{arith}
+use Rattle.std.proofs.Common.{refl, arith}
 use Rattle.state_reduction.proofs.Reductions.{ends_reduced, goes_on, may_lose, starts}
 use Rattle.state_reduction.proofs.reduction.reduce.Goals as goal
 
@@ -7,10 +7,9 @@ loop-m-init c = starts _ c.args.m.now c.args.scratch.now (omega (arith, c.size-s
 
 pub step-requires : goal.step-requires
 step-requires c =
-    record {
-      ready = may_lose _ c.args.m.now c.loop-m.m c.args.scratch.now c.loop-m.scratch c.requires.ready c.loop-m.invariant
-          (omega (arith, c.alive.ensures.alive, c.loop-m-test.true));
-    }
+    let ready = may_lose _ c.args.m.now c.loop-m.m c.args.scratch.now c.loop-m.scratch c.requires.ready c.loop-m.invariant
+    (omega (arith, c.alive.ensures.alive, c.loop-m-test.true)) in
+    record { ready = record { form = refl; alive = ready.alive; room = ready.room } }
 
 pub loop-m-preserved : goal.loop-m-preserved
 loop-m-preserved c =

@@ -1,22 +1,21 @@
-use Rattle.std.proofs.Common.{arith}
+use Rattle.std.proofs.Common.{refl, arith}
 use Rattle.state_reduction.proofs.Reductions.{ends_reduced, goes_on, may_lose, starts}
 use Rattle.state_reduction.proofs.reduction.reduce_packed.Goals as goal
 
 pub loop-m-init : goal.loop-m-init
 loop-m-init c = starts _ c.args.m.now c.args.scratch.now (omega (arith, c.size-size.ensures.least)) c.requires.ready
 
-pub step_packed-requires : goal.step_packed-requires
-step_packed-requires c =
-    record {
-      ready = may_lose _ c.args.m.now c.loop-m.m c.args.scratch.now c.loop-m.scratch c.requires.ready c.loop-m.invariant
-          (omega (arith, c.alive.ensures.alive, c.loop-m-test.true));
-    }
+pub step-requires : goal.step-requires
+step-requires c =
+    let ready = may_lose _ c.args.m.now c.loop-m.m c.args.scratch.now c.loop-m.scratch c.requires.ready c.loop-m.invariant
+    (omega (arith, c.alive.ensures.alive, c.loop-m-test.true)) in
+    record { ready = record { form = refl; alive = ready.alive; room = ready.room } }
 
 pub loop-m-preserved : goal.loop-m-preserved
 loop-m-preserved c =
-    goes_on c.args.m.now c.loop-m.m c.step_packed.new.m c.args.scratch.now c.loop-m.scratch c.step_packed.new.scratch
-    c.loop-m.invariant (omega (arith, c.alive.ensures.alive, c.loop-m-test.true)) c.step_packed.ensures.state
-    c.step_packed.ensures.row
+    goes_on c.args.m.now c.loop-m.m c.step.new.m c.args.scratch.now c.loop-m.scratch c.step.new.scratch
+    c.loop-m.invariant (omega (arith, c.alive.ensures.alive, c.loop-m-test.true)) c.step.ensures.state
+    c.step.ensures.row
 
 pub returns-clause-reduced : goal.returns-clause-reduced
 returns-clause-reduced c =

@@ -1,11 +1,12 @@
 -- The measures of several plans, put together.
-use Rattle.std.proofs.Common.{◌≡◌, ◌∙◌, ℕ, ◌+◌, ◌<◌, sym, ap, subst, List, [], ◌∷◌, ◌++◌, length, get_or, take, drop}
+use Rattle.std.proofs.Common.{◌≡◌, ◌∙◌, ℕ, ◌+◌, ◌<◌, sym, ap, subst, refl, List, [], ◌∷◌, ◌++◌, length, map, get_or, take, drop}
 use Rattle.std.specs.List.{AllZip}
 use Rattle.std.proofs.lemmas.List.{take-append-drop, take_more}
+use Rattle.std.proofs.lemmas.Slice.Zip.{AllZip-long}
 use Rattle.hyper_model.specs.Enclosures.{EnclosureList}
 use Rattle.hyper_model.specs.declared.parts.PlanParts.{PlanParts}
-use Rattle.plan_solver.specs.Enclosures.{IsEnclosureOf}
-use Rattle.plan_compare.specs.Enclosing.{AreEnclosuresOf}
+use Rattle.plan_solver.specs.Enclosures.{AreEnclosuresOf, IsEnclosureOf}
+use Rattle.plan_solver.proofs.AllMeasures.{one_enclosure}
 
 -- lists that belong together, after others that do
 pub AllZip-append : {A B : Type 0} (R : A → B → Type 0) (xs ys : List A) (us vs : List B) → AllZip R xs us → AllZip R ys vs
@@ -37,3 +38,18 @@ one_more plans k plan found list all h e before this g =
     subst (λ ps. AllZip is ps all) both
     (subst (λ lists. AllZip is (take k plans ++ plan ∷ []) lists) (sym g)
     (AllZip-append is (take k plans) (plan ∷ []) found (list ∷ []) before (this, tt)))
+
+-- one list for each plan
+pub as_many : (plans : List PlanParts) (found : List EnclosureList) → AreEnclosuresOf plans found → length found ≡ length plans
+as_many plans found are = AllZip-long (λ p list. IsEnclosureOf p list.items) plans found are
+
+-- there is one list for each plan
+pub same_enclosures : (plans : List PlanParts) (found others : List EnclosureList) → AreEnclosuresOf plans found
+    → AreEnclosuresOf plans others → map (λ (e : EnclosureList). e.items) others ≡ map (λ (e : EnclosureList). e.items) found
+same_enclosures [] [] [] are same = refl
+same_enclosures [] [] (o ∷ os) are same = absurd same
+same_enclosures [] (f ∷ fs) others are same = absurd are
+same_enclosures (p ∷ ps) [] others are same = absurd are
+same_enclosures (p ∷ ps) (f ∷ fs) [] are same = absurd same
+same_enclosures (p ∷ ps) (f ∷ fs) (o ∷ os) are same =
+    rw (one_enclosure p f.items o.items are.0 same.0, same_enclosures ps fs os are.1 same.1) refl

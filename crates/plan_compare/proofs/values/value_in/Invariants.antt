@@ -1,6 +1,0 @@
-use Rattle.std.proofs.Common.{◌≡◌, drop}
-use Rattle.plan_compare.specs.Values.{value_in}
-use Rattle.plan_compare.proofs.values.value_in.Given as goal
-
-abbrev pub invariant-loop-place : goal.invariant-loop-place
-invariant-loop-place l = value_in l.measure l.list.items ≡ value_in l.measure (drop l.place l.list.items)
