@@ -2,10 +2,10 @@
 use Rattle.std.proofs.Common.{◌≡◌, ℕ, [], ◌∷◌, refl}
 use Rattle.std.specs.Prelude.{true, false, Option, Some, None, codes}
 use Rattle.report_text.specs.declared.ending.Widths.{Widths}
-use Rattle.command_words.specs.Command.{command, compare_of, solve_of}
+use Rattle.command_words.specs.Command.{command, compare_of, finite_of, pairs_of, solve_of}
 use Rattle.command_words.specs.Options.{options_of}
 use Rattle.command_words.specs.Arguments.{free_argument, lists_from, long_argument}
-use Rattle.command_words.specs.declared.command.Command.TheVariants.{Solve, Compare}
+use Rattle.command_words.specs.declared.command.Command.TheVariants.{Solve, Compare, Finite, Pairs}
 
 abbrev widths : Option ℕ → Option ℕ → Widths
 widths share time = record { share = share; time = time }
@@ -69,6 +69,42 @@ seventeen_workers = refl
 option_of_another_command : command (codes "compare" ∷ codes "s.toml" ∷ codes "--summary" ∷ []) ≡ None
 unfolding lists_from free_argument long_argument options_of compare_of
 option_of_another_command = refl
+
+thousand_places : command (codes "finite" ∷ codes "a.csv" ∷ codes "1000" ∷ []) ≡ Some (Finite (codes "a.csv") 1000)
+unfolding lists_from free_argument long_argument finite_of
+thousand_places = refl
+
+no_place : command (codes "finite" ∷ codes "a.csv" ∷ codes "0" ∷ []) ≡ None
+unfolding lists_from free_argument long_argument finite_of
+no_place = refl
+
+one_place_more : command (codes "finite" ∷ codes "a.csv" ∷ codes "1001" ∷ []) ≡ None
+unfolding lists_from free_argument long_argument finite_of
+one_place_more = refl
+
+five_digits : command (codes "finite" ∷ codes "a.csv" ∷ codes "00001" ∷ []) ≡ None
+unfolding lists_from free_argument long_argument finite_of
+five_digits = refl
+
+places_with_an_option : command (codes "finite" ∷ codes "a.csv" ∷ codes "1" ∷ codes "--workers=2" ∷ []) ≡ None
+unfolding lists_from free_argument long_argument finite_of
+places_with_an_option = refl
+
+all_in_pairs : command (codes "pairs" ∷ codes "a.csv" ∷ codes "100" ∷ []) ≡ Some (Pairs (codes "a.csv") 100)
+unfolding lists_from free_argument long_argument pairs_of
+all_in_pairs = refl
+
+more_than_all : command (codes "pairs" ∷ codes "a.csv" ∷ codes "101" ∷ []) ≡ None
+unfolding lists_from free_argument long_argument pairs_of
+more_than_all = refl
+
+four_digits : command (codes "pairs" ∷ codes "a.csv" ∷ codes "0050" ∷ []) ≡ None
+unfolding lists_from free_argument long_argument pairs_of
+four_digits = refl
+
+pairs_with_an_option : command (codes "pairs" ∷ codes "a.csv" ∷ codes "50" ∷ codes "--workers=2" ∷ []) ≡ None
+unfolding lists_from free_argument long_argument pairs_of
+pairs_with_an_option = refl
 
 nothing_to_do : command [] ≡ None
 unfolding lists_from

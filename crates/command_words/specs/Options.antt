@@ -2,7 +2,7 @@
 use Rattle.std.specs.Prelude.{ℕ, ◌≤◌, Bool, true, false, ◌&&◌, if◌then◌else◌, ◌==◌, nat_le, List, [], ◌∷◌, Option, Some, None, option_and_then, count_by}
 use Rattle.std.specs.List.{filter_map}
 use Rattle.std.specs.Option.{option_map, unwrap_or}
-use Rattle.command_words.specs.Numbers.{number_in}
+use Rattle.text_lines.specs.Numbers.{number_in}
 use Rattle.command_words.specs.declared.options.Setting.{Setting}
 use Rattle.command_words.specs.declared.options.Setting.TheVariants as setting
 use Rattle.command_words.specs.declared.options.Key.{Key}

@@ -3,7 +3,7 @@ use report_text::Widths;
 
 /// What is written if the arguments are no command.
 pub const USAGE: &str =
-    "usage: hypercube solve FILE | compare STUDY | make UNITS NUMBER [--width W] [--time-width W] [--workers N] [--summary]\n";
+    "usage: hypercube solve FILE | compare STUDY | make UNITS NUMBER | finite FILE PLACES | pairs FILE PERCENT [--width W] [--time-width W] [--workers N] [--summary]\n";
 
 /// What the program is asked to do.
 #[derive(Debug, Drop, PartialEq, Eq)]
@@ -34,6 +34,20 @@ pub enum Command {
         units: u64,
         /// The number that it is made from, below 10^18.
         number: u64,
+    },
+    /// Report the measures of a plan with a limited number of waiting places.
+    Finite {
+        /// The plan's file.
+        file: Name255,
+        /// How many calls can wait, from 1 to 1000.
+        places: u32,
+    },
+    /// Report the measures of a plan whose calls may need two units.
+    Pairs {
+        /// The plan's file.
+        file: Name255,
+        /// How many calls of a hundred need two units, from 0 to 100.
+        percent: u32,
     },
 }
 

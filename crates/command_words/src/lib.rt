@@ -5,7 +5,6 @@ mod argument;
 mod argument_lists;
 mod command;
 mod name;
-mod number;
 mod options;
 mod reading;
 

@@ -3,8 +3,8 @@ ghost use Rattle.std.specs.Option.{option_to_list};
 ghost use Rattle.command_words.specs.Options as spec;
 ghost use Rattle.command_words.specs.Options.{AreWorkers, once};
 
-use crate::number::number_of;
 use report_text::Widths;
+use text_lines::number_of;
 
 /// The most digits that an option's value has.
 const MOST_VALUE_DIGITS: usize = 9;

@@ -2,6 +2,8 @@
 pub mod ReadPlans
 pub mod WideMeasures
 pub mod TrueReports
+pub mod FiniteRuns
 pub mod TrueComparisons
 pub mod Faults
 pub mod Endings
+pub mod PairedCalls

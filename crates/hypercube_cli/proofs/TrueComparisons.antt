@@ -11,27 +11,13 @@ use Rattle.hyper_model.specs.declared.parts.PlanParts.{PlanParts}
 use Rattle.hyper_model.proofs.Denominators.{denominator_positive}
 use Rattle.hyper_model.proofs.PlanLaws.{has_solution}
 use Rattle.outer_world.specs.declared.named_text.NamedText.{NamedText}
-use Rattle.plan_compare.specs.Enclosing.{AreEnclosuresOf}
+use Rattle.plan_solver.specs.Enclosures.{AreEnclosuresOf}
 use Rattle.plan_solver.specs.Enclosures.{IsEnclosureOf}
 use Rattle.plan_solver.proofs.AllMeasures.{one_enclosure}
 use Rattle.plan_compare.specs.Studies.{StudyParts}
 use Rattle.hypercube_cli.specs.declared.outcome.Outcome.TheVariants as outcome
 use Rattle.hypercube_cli.specs.Endings.{Ending}
 use Rattle.hypercube_cli.specs.Tasks.Comparisons.{IsProvedComparison, IsTrueComparison, plans_from, study_at}
-
-pub as_many : (plans : List PlanParts) (found : List EnclosureList) → AreEnclosuresOf plans found → length found ≡ length plans
-as_many plans found are = AllZip-long (λ p list. IsEnclosureOf p list.items) plans found are
-
--- there is one list for each plan
-pub same_enclosures : (plans : List PlanParts) (found others : List EnclosureList) → AreEnclosuresOf plans found
-    → AreEnclosuresOf plans others → map (λ (e : EnclosureList). e.items) others ≡ map (λ (e : EnclosureList). e.items) found
-same_enclosures [] [] [] are same = refl
-same_enclosures [] [] (o ∷ os) are same = absurd same
-same_enclosures [] (f ∷ fs) others are same = absurd are
-same_enclosures (p ∷ ps) [] others are same = absurd are
-same_enclosures (p ∷ ps) (f ∷ fs) [] are same = absurd same
-same_enclosures (p ∷ ps) (f ∷ fs) (o ∷ os) are same =
-    rw (one_enclosure p f.items o.items are.0 same.0, same_enclosures ps fs os are.1 same.1) refl
 
 -- what each accepted plan has
 have_each : (P : PlanParts → Type 0) → ((p : PlanParts) → IsAccepted p → P p) → (plans : List PlanParts)

@@ -5,7 +5,9 @@ use Rattle.command_words.specs.declared.command.Command.TheVariants as command
 use Rattle.hypercube_cli.specs.Endings.{usage_ending}
 use Rattle.hypercube_cli.specs.Meanings.{Meaning}
 use Rattle.hypercube_cli.specs.Tasks.Comparisons.{compare_meaning}
+use Rattle.hypercube_cli.specs.Tasks.FiniteLines.{finite_meaning}
 use Rattle.hypercube_cli.specs.Tasks.MadePlans.{make_meaning}
+use Rattle.hypercube_cli.specs.Tasks.PairedCalls.{pairs_meaning}
 use Rattle.hypercube_cli.specs.Tasks.Reports.{solve_meaning}
 
 -- it ends with the usage line, and never well
@@ -22,3 +24,5 @@ meaning_of None = usage_meaning
 meaning_of (Some (command.Solve file widths workers summary)) = solve_meaning file widths summary
 meaning_of (Some (command.Compare study widths workers)) = compare_meaning study widths
 meaning_of (Some (command.Make units number)) = make_meaning units number
+meaning_of (Some (command.Finite file places)) = finite_meaning file places
+meaning_of (Some (command.Pairs file percent)) = pairs_meaning file percent

@@ -15,8 +15,8 @@ argument_field (Some n) = number_field n
 
 abbrev pub fields_line : RefusalFields → List ℕ
 fields_line fields =
-    codes "refused" ++ number_field fields.place ++ number_field fields.number ++ flat_map argument_field fields.arguments
-    ++ codes "\n"
+    codes "refused" ++ number_field fields.place ++ number_field fields.code.number
+    ++ flat_map argument_field fields.code.arguments ++ codes "\n"
 
 abbrev pub refusal_line : Refusal → List ℕ
 refusal_line r = fields_line (fields_of r)

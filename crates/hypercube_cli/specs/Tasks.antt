@@ -1,3 +1,5 @@
 pub mod Reports
 pub mod Comparisons
 pub mod MadePlans
+pub mod FiniteLines
+pub mod PairedCalls

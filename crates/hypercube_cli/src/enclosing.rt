@@ -1,6 +1,6 @@
 ghost use Rattle.std.specs.Prelude.{◌≤◌, IfOk};
 ghost use Rattle.command_words.specs.Options.{AreWorkers};
-ghost use Rattle.plan_compare.specs.Enclosing.{AreEnclosuresOf};
+ghost use Rattle.plan_solver.specs.Enclosures.{AreEnclosuresOf};
 
 use hyper_model::{Enclosures, Plan};
 use plan_compare::enclose_all;

@@ -13,8 +13,8 @@ pub(crate) fn refusal_text(alloc: Global, refusal: Refusal) -> Result<Vec<u8>, A
     let fields = refusal.fields();
     let mut text = Vec::from_slice(alloc, b"refused")?;
     push_number_field(&mut text, u64::from(fields.place))?;
-    push_number_field(&mut text, u64::from(fields.number))?;
-    push_arguments(&mut text, &fields.arguments)?;
+    push_number_field(&mut text, u64::from(fields.code.number))?;
+    push_arguments(&mut text, &fields.code.arguments)?;
     text.push(b'\n')?;
     Ok(text)
 }

@@ -1,8 +1,11 @@
 ghost use Rattle.std.specs.Prelude.{◌≡◌};
 
+use finite_line::FiniteRefusal;
+use pair_dispatch::PairRefusal;
 use plan_compare::StudyRefusal;
 use plan_maker::MakeRefusal;
 use plan_reader::PlanRefusal;
+use text_lines::RefusalCode;
 
 /// What was refused, and why. It is never for lack of memory.
 #[derive(Clone, Copy, Debug, PartialEq, Eq)]
@@ -13,6 +16,10 @@ pub enum Refusal {
     Study(StudyRefusal),
     /// The plan that was to be made.
     Make(MakeRefusal),
+    /// The plan that was to have waiting places.
+    Finite(FiniteRefusal),
+    /// The plan whose calls were to need two units.
+    Pair(PairRefusal),
 }
 
 /// What the text line of a refusal says.
@@ -20,10 +27,7 @@ pub enum Refusal {
 pub(crate) struct RefusalFields {
     /// The place of the text that is refused, and 0 for what stands at none.
     pub place: u32,
-    /// The number of the reason.
-    pub number: u32,
-    /// Its arguments in order, at most two.
-    pub arguments: [Option<u64>; 2],
+    pub code: RefusalCode,
 }
 
 impl Refusal {
@@ -36,18 +40,23 @@ impl Refusal {
         match self {
             Refusal::Plan(place, plan) => RefusalFields {
                 place,
-                number: plan.number(),
-                arguments: plan.arguments(),
+                code: plan.code(),
             },
             Refusal::Study(study) => RefusalFields {
                 place: 0,
-                number: study.number(),
-                arguments: study.arguments(),
+                code: study.code(),
             },
             Refusal::Make(plan) => RefusalFields {
                 place: 0,
-                number: plan.number(),
-                arguments: [None, None],
+                code: plan.code(),
+            },
+            Refusal::Finite(plan) => RefusalFields {
+                place: 1,
+                code: plan.code(),
+            },
+            Refusal::Pair(plan) => RefusalFields {
+                place: 1,
+                code: plan.code(),
             },
         }
     }

@@ -1,9 +1,9 @@
 ghost use Rattle.std.specs.Prelude.{◌≡◌, ◌≤◌, ℕ, Some, false, IfErr, IfOk, IfSome};
 ghost use Rattle.std.specs.Result.{IsErrOf};
 ghost use Rattle.outer_world.specs.Faults.{Rose};
-ghost use Rattle.command_words.specs.Command.{WorkersInRange};
+ghost use Rattle.command_words.specs.Command.{NumbersInRange};
 ghost use Rattle.command_words.specs.Options.{AreWorkers};
-ghost use Rattle.plan_compare.specs.Enclosing.{AreEnclosuresOf};
+ghost use Rattle.plan_solver.specs.Enclosures.{AreEnclosuresOf};
 ghost use Rattle.hypercube_cli.specs.Meanings.{Meaning, texts_for};
 ghost use Rattle.hypercube_cli.specs.Commands.{meaning_of};
 ghost use Rattle.hypercube_cli.specs.Runs.{Answers};
@@ -11,7 +11,9 @@ ghost use Rattle.hypercube_cli.specs.Stops.{IsOfCommand};
 ghost use Rattle.hypercube_cli.specs.Untouched.{IsUntouched};
 
 mod compare;
+mod finite;
 mod make;
+mod pairs;
 mod solve;
 
 use crate::Outcome;
@@ -19,9 +21,11 @@ use crate::answer::Answer;
 use crate::stop::Stop;
 use command_words::Command;
 use compare::Compare;
+use finite::Finite;
 use hyper_model::{Enclosures, Plan};
 use make::Make;
 use outer_world::Shelf;
+use pairs::Pairs;
 use solve::Solve;
 use std::alloc::{AllocError, Global};
 
@@ -31,8 +35,8 @@ use std::alloc::{AllocError, Global};
 pub(crate) trait Task {
     ghost meaning: { Self → Meaning };
 
-    // Whether the number of its workers is in range, if it is done by workers.
-    ghost has_workers: { Self → Type 0 };
+    // Whether its numbers are in range: that of its workers, or whatever else it has.
+    ghost in_range: { Self → Type 0 };
 
     /// What it comes to.
     fn answer<S: Shelf, E: Fn(&[Plan], u32) -> Result<Vec<Enclosures>, AllocError>>(
@@ -41,7 +45,7 @@ pub(crate) trait Task {
         shelf: &mut S,
         enclose: &E,
     ) -> Result<Answer, Stop>
-        requires workers { has_workers self }
+        requires in_range { in_range self }
         requires may_enclose { (plans : _) (workers : ℕ) → AreWorkers workers → E.pre enclose.now plans workers }
         requires encloses { (plans : _) (workers : ℕ) (found : _) → E.post enclose.now plans workers found
             → IfOk found (λ found. AreEnclosuresOf plans.now found.items) }
@@ -61,7 +65,7 @@ pub(crate) trait Task {
 impl Task for Command {
     ghost meaning = { λ command. meaning_of (Some command) };
 
-    ghost has_workers = { WorkersInRange };
+    ghost in_range = { NumbersInRange };
 
     #[tactic(auto, unfolding(crate::specs::Commands::meaning_of))]
     fn answer<S: Shelf, E: Fn(&[Plan], u32) -> Result<Vec<Enclosures>, AllocError>>(
@@ -94,6 +98,12 @@ impl Task for Command {
             }
             .answer(alloc, shelf, enclose),
             Command::Make { units, number } => Make { units, number }.answer(alloc, shelf, enclose),
+            Command::Finite { file, places } => {
+                Finite { file, places }.answer(alloc, shelf, enclose)
+            }
+            Command::Pairs { file, percent } => {
+                Pairs { file, percent }.answer(alloc, shelf, enclose)
+            }
         }
     }
 }

@@ -6,7 +6,7 @@ ghost use Rattle.std.specs.Thread.{IsSync};
 ghost use Rattle.outer_world.specs.Faults.{Rose};
 ghost use Rattle.command_words.specs.Command.{command as command_of};
 ghost use Rattle.command_words.specs.Options.{AreWorkers};
-ghost use Rattle.plan_compare.specs.Enclosing.{AreEnclosuresOf};
+ghost use Rattle.plan_solver.specs.Enclosures.{AreEnclosuresOf};
 ghost use Rattle.hypercube_cli.specs.Commands.{meaning_of};
 ghost use Rattle.hypercube_cli.specs.Endings.{usage_ending};
 ghost use Rattle.hypercube_cli.specs.Meanings.{texts_for};

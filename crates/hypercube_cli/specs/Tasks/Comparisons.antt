@@ -9,7 +9,7 @@ use Rattle.hyper_model.specs.declared.parts.PlanParts.{PlanParts}
 use Rattle.outer_world.specs.declared.named_text.NamedText.{NamedText}
 use Rattle.report_text.specs.declared.ending.Widths.{Widths}
 use Rattle.plan_compare.specs.Comparisons.{value_places, comparison_bytes, first_wide_of}
-use Rattle.plan_compare.specs.Enclosing.{AreEnclosuresOf}
+use Rattle.plan_solver.specs.Enclosures.{AreEnclosuresOf}
 use Rattle.plan_compare.specs.Studies.{StudyParts, study_of}
 use Rattle.plan_compare.specs.Truth.{AreTrue, ContainsPlans}
 use Rattle.plan_compare.specs.Verdicts.{verdicts_of}

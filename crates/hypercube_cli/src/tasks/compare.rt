@@ -3,7 +3,7 @@ ghost use Rattle.std.specs.Result.{IsErrOf};
 ghost use Rattle.outer_world.specs.Faults.{Rose};
 ghost use Rattle.hyper_model.specs.Plans.{IsAccepted};
 ghost use Rattle.command_words.specs.Options.{AreWorkers};
-ghost use Rattle.plan_compare.specs.Enclosing.{AreEnclosuresOf};
+ghost use Rattle.plan_solver.specs.Enclosures.{AreEnclosuresOf};
 ghost use Rattle.hypercube_cli.specs.Readings.{ReachesAs};
 ghost use Rattle.hypercube_cli.specs.Stops.{IsOfCommand};
 ghost use Rattle.hypercube_cli.specs.Tasks.Comparisons.{IsCompared, IsTrueComparison, compare_meaning, plans_from, study_in};
@@ -33,7 +33,7 @@ pub(crate) struct Compare {
 impl Task for Compare {
     ghost meaning = { λ task. compare_meaning task.study task.widths };
 
-    ghost has_workers = { λ task. AreWorkers task.workers };
+    ghost in_range = { λ task. AreWorkers task.workers };
 
     fn answer<S: Shelf, E: Fn(&[Plan], u32) -> Result<Vec<Enclosures>, AllocError>>(
         self,

@@ -19,7 +19,7 @@ pub(crate) struct Make {
 impl Task for Make {
     ghost meaning = { λ task. make_meaning task.units task.number };
 
-    ghost has_workers = { λ _. Unit {0} };
+    ghost in_range = { λ _. Unit {0} };
 
     fn answer<S: Shelf, E: Fn(&[Plan], u32) -> Result<Vec<Enclosures>, AllocError>>(
         self,

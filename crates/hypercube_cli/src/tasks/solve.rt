@@ -26,7 +26,7 @@ pub(crate) struct Solve {
 impl Task for Solve {
     ghost meaning = { λ task. solve_meaning task.file task.widths task.summary };
 
-    ghost has_workers = { λ task. AreWorkers task.workers };
+    ghost in_range = { λ task. AreWorkers task.workers };
 
     fn answer<S: Shelf, E: Fn(&[Plan], u32) -> Result<Vec<Enclosures>, AllocError>>(
         self,

@@ -1,7 +1,7 @@
 use Rattle.std.proofs.Common.{◌∙◌, List, ap}
 use Rattle.hyper_model.specs.Enclosures.{EnclosureList}
 use Rattle.hypercube_cli.specs.Endings.{Ending}
-use Rattle.hypercube_cli.proofs.TrueComparisons.{as_many, same_enclosures}
+use Rattle.plan_solver.proofs.SolvedPlans.{as_many, same_enclosures}
 use Rattle.hypercube_cli.proofs.tasks.compare.comparison_answer.Goals as goal
 
 pub verdicts-requires-clause-one_each : goal.verdicts-requires-clause-one_each
