@@ -7,7 +7,7 @@ MEGABYTES = 40
 MEGABYTES_OF_ONE_ROW = 140
 MEGABYTES_OF_A_STUDY = 140
 
-USAGE = (b"usage: hypercube solve FILE | compare STUDY | make UNITS NUMBER"
+USAGE = (b"usage: hypercube solve FILE | compare STUDY | make UNITS NUMBER | finite FILE PLACES | pairs FILE PERCENT"
          b" [--width W] [--time-width W] [--workers N] [--summary]\n")
 
 FILES = {
@@ -17,6 +17,7 @@ FILES = {
                "travel,Q,Q,60\nat,A,P,1000\nat,B,Q,1000\nprefer,P,A,B\nprefer,Q,B,A\n",
     "wide.csv": "unit,A,300000\nunit,B,300000\nunit,C,300000\natom,P,1,0,0,A\ntravel,P,P,300\nat,A,P,1000\nat,B,P,1000\n"
                 "at,C,P,1000\nprefer,P,A,B,C\n",
+    "group.csv": "version,2\nunit,A,3\nunit,B,3\natom,P,1,0,0,A\ntravel,P,P,60\nat,A,P,1000\nat,B,P,1000\ngroup,P,A,B\n",
     "wrong.csv": "Unit,A,2\n",
     "both.toml": 'plans = ["two.csv", "one.csv"]\nmeasures = ["loss"]\n',
     "twice.toml": 'plans = ["two.csv", "two.csv"]\nmeasures = ["loss"]\n',
@@ -34,6 +35,10 @@ MEMORY_RUNS = (
     ("compare both.toml", 2000),
     ("solve wrong.csv", 2000),
     ("solve wide.csv --time-width 2", 2000),
+    ("finite two.csv 2", 2000),
+    ("finite queue.csv 1", 400),
+    ("pairs two.csv 50", 2000),
+    ("pairs group.csv 50", 400),
     ("make 10 7", 400),
     (f"compare {STUDY}", 400),
     ("solve two.csv --workers 4", 400),
@@ -41,8 +46,10 @@ MEMORY_RUNS = (
     ("compare both.toml --workers 2", 400),
     ("", 400),
 )
-READING_RUNS = ("solve two.csv", "solve queue.csv", "compare both.toml", "compare twice.toml", f"compare {STUDY}")
-WRITING_RUNS = ("solve two.csv", "compare both.toml", "make 2 7", "solve wrong.csv", "solve wide.csv --time-width 2", "")
+READING_RUNS = ("solve two.csv", "solve queue.csv", "compare both.toml", "compare twice.toml", f"compare {STUDY}",
+                "finite two.csv 2", "pairs two.csv 50")
+WRITING_RUNS = ("solve two.csv", "compare both.toml", "make 2 7", "finite two.csv 2", "pairs two.csv 50", "solve wrong.csv",
+                "solve wide.csv --time-width 2", "")
 THREAD_RUNS = ("solve two.csv", f"solve {EIGHT}", "compare both.toml", f"compare {STUDY}")
 
 # Words, how the run ends, and what it writes.
@@ -62,10 +69,21 @@ PLACES = (
     (["compare", "into.toml"], "unread", b""),
     (["compare", "long.toml"], "refused", b"refused,0,60\n"),
     (["compare", "/dev/zero"], "refused", b"refused,0,63,4194305\n"),
+    (["finite", "folder", "1"], "unread", b""),
+    (["finite", "gone.csv", "1"], "absent", b""),
+    (["finite", "queue.csv", "1"], "refused", b"refused,1,80\n"),
+    (["finite", "/dev/zero", "1"], "refused", b"refused,1,2,4194305\n"),
+    (["pairs", "folder", "1"], "unread", b""),
+    (["pairs", "gone.csv", "1"], "absent", b""),
+    (["pairs", "queue.csv", "1"], "refused", b"refused,1,82\n"),
+    (["pairs", "group.csv", "1"], "refused", b"refused,1,84,1\n"),
+    (["pairs", "/dev/zero", "1"], "refused", b"refused,1,2,4194305\n"),
     ([b"\xff"], "usage", USAGE),
     (["solve", b"two\xff.csv"], "usage", USAGE),
     (["solve", "two.csv", b"--workers=\xff"], "usage", USAGE),
     (["make", "2", b"\xff"], "usage", USAGE),
+    (["finite", "two.csv", b"\xff"], "usage", USAGE),
+    (["pairs", "two.csv", b"\xff"], "usage", USAGE),
 )
 
 

@@ -4,6 +4,8 @@
 #[cfg(test)]
 mod by_hand;
 #[cfg(test)]
+mod pairs;
+#[cfg(test)]
 mod plans;
 #[cfg(test)]
 mod tests;

@@ -156,3 +156,37 @@ travel,Q,Q,60
 at,A,P,1000
 at,B,Q,1000
 ";
+
+/// Three unlike units, one of them first for most calls, and an atom without calls.
+pub const THREE_IN_TURN: &str = "\
+unit,A,7
+unit,B,5
+unit,C,11
+atom,P,4,0,0,A
+atom,Q,6,9,0,B
+atom,R,0,9,9,C
+atom,S,3,0,9,C
+travel,P,P,90
+travel,P,Q,90
+travel,P,R,90
+travel,P,S,90
+travel,Q,P,90
+travel,Q,Q,90
+travel,Q,R,90
+travel,Q,S,90
+travel,R,P,90
+travel,R,Q,90
+travel,R,R,90
+travel,R,S,90
+travel,S,P,90
+travel,S,Q,90
+travel,S,R,90
+travel,S,S,90
+at,A,P,1000
+at,B,Q,1000
+at,C,R,1000
+prefer,P,A,B,C
+prefer,Q,B,C,A
+prefer,R,C,B,A
+prefer,S,A,C,B
+";

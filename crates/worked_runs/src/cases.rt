@@ -1,3 +1,4 @@
+use crate::commands::made_text;
 use crate::shelves::{shelf_with, words_of};
 use hypercube_cli::{Outcome, hypercube, status};
 use outer_world::{MemoryShelf, MemorySink};
@@ -37,6 +38,8 @@ pub(crate) enum Text {
     Filled(&'static str, usize),
     /// So many times this part.
     Repeated(&'static str, usize),
+    /// The made plan of so many units and this number.
+    Made(u64, u64),
 }
 
 /// What is written.
@@ -48,6 +51,28 @@ pub(crate) enum Written {
     Begins(&'static str),
     /// A text with these lines among others.
     Lines(&'static [&'static str]),
+}
+
+/// A command line, the text of `a.csv` and `s.toml`, the status of the end, and what is written.
+pub(crate) type Ended = (&'static str, Text, u8, Written);
+
+/// Whether runs end so; each goes by the name of its command line.
+pub(crate) fn check_all<R: Abort + Threads + Sync>(
+    rt: &R,
+    alloc: Global,
+    ended: &[Ended],
+) -> Result<(), Fail> {
+    for (line, text, status, written) in ended {
+        let case = Case {
+            name: *line,
+            line: *line,
+            text: *text,
+            status: *status,
+            written: *written,
+        };
+        check(rt, alloc, &case)?;
+    }
+    Ok(())
 }
 
 /// How a case ends, after a look at its status and at what it writes.
@@ -125,6 +150,7 @@ fn bytes_of(alloc: Global, text: &Text) -> Result<Vec<u8>, Fail> {
         },
         Text::Filled(base, bytes) => text_of_size(alloc, base, bytes)?,
         Text::Repeated(part, times) => repeated_text(alloc, part, times)?,
+        Text::Made(units, number) => made_text(alloc, units, number)?,
     })
 }
 

@@ -27,7 +27,7 @@ fn command_lines_end_so(rt: HostRuntime) -> Result<(), Fail> {
 type Ended = (&'static str, u8, Written);
 
 pub(crate) const USAGE: &str = "\
-usage: hypercube solve FILE | compare STUDY | make UNITS NUMBER [--width W] [--time-width W] [--workers N] [--summary]
+usage: hypercube solve FILE | compare STUDY | make UNITS NUMBER | finite FILE PLACES | pairs FILE PERCENT [--width W] [--time-width W] [--workers N] [--summary]
 ";
 
 const ENDED: &[Ended] = &[
@@ -147,7 +147,43 @@ const NO_COMMANDS: &str = " \n\
     make 2 1000000000000000000\n\
     make 0000000000000000002 0\n\
     make 2 0 --workers 1\n\
-    make --summary 2 0";
+    make --summary 2 0\n\
+    finite\n\
+    finite a.csv\n\
+    finite  1\n\
+    finite a.csv \n\
+    finite a.csv 1 1\n\
+    finite 1 a.csv\n\
+    Finite a.csv 1\n\
+    finite a.csv 0\n\
+    finite a.csv 0000\n\
+    finite a.csv 00001\n\
+    finite a.csv 1001\n\
+    finite a.csv 9999\n\
+    finite a.csv +1\n\
+    finite a.csv 1.5\n\
+    finite -- a.csv -1\n\
+    finite a.csv 1 --summary\n\
+    finite a.csv 1 --width 2\n\
+    finite --time-width=2 a.csv 1\n\
+    --workers 2 finite a.csv 1\n\
+    pairs\n\
+    pairs a.csv\n\
+    pairs  1\n\
+    pairs a.csv \n\
+    pairs a.csv 1 1\n\
+    pairs 1 a.csv\n\
+    Pairs a.csv 1\n\
+    pairs a.csv 101\n\
+    pairs a.csv 999\n\
+    pairs a.csv 0001\n\
+    pairs a.csv +1\n\
+    pairs a.csv 5%\n\
+    pairs -- a.csv -1\n\
+    pairs a.csv 1 --summary\n\
+    pairs a.csv 1 --width 2\n\
+    pairs --time-width=2 a.csv 1\n\
+    --workers 2 pairs a.csv 1";
 
 #[test]
 fn plain_words_that_give_no_command(rt: HostRuntime) -> Result<(), Fail> {

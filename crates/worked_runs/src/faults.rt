@@ -1,11 +1,15 @@
 use crate::cases::{run, run_with_faults};
 use crate::commands::USAGE;
+use crate::finite::HALF_LOAD_ONE_PLACE;
+use crate::pairs::TWO_UNITS_ALL;
 use crate::reports::{HALF_LOAD_REPORT, MADE_PLAN};
 use crate::shelves::words_of;
 use crate::studies::{TWO_AND_HALF, TWO_AND_HALF_COMPARED};
+use finite_line::FiniteRefusal;
 use hyper_model::Measure;
 use hypercube_cli::{Outcome, Refusal, hypercube};
 use outer_world::{FileShelf, StdoutSink};
+use pair_dispatch::PairRefusal;
 use plan_compare::StudyRefusal;
 use plan_reader::PlanRefusal;
 use rate_matrix::OpenGate;
@@ -14,7 +18,9 @@ use std::fs;
 use std::process::Abort;
 use std::test::Fail;
 use std::thread::Threads;
-use worked_plans::{HALF_LOAD, THIRD_LOAD, THREE_UNITS};
+use worked_plans::{
+    ELEVEN_UNITS, HALF_LOAD, ONE_GROUP, THIRD_LOAD, THIRD_LOAD_WITH_A_QUEUE, THREE_UNITS, TWO_UNITS,
+};
 
 /// A command line and its text; the calls of a shelf that gives ten bytes at a time, which are an opening, the pieces and
 /// the end of each text, and those of a sink that takes a hundred; and how the run ends if none of them fails.
@@ -52,6 +58,38 @@ const COMMANDS: &[Command] = &[
         writes: 14,
         outcome: Outcome::Done,
         written: MADE_PLAN,
+    },
+    Command {
+        line: "finite a.csv 1",
+        text: HALF_LOAD,
+        reads: 9,
+        writes: 2,
+        outcome: Outcome::Done,
+        written: HALF_LOAD_ONE_PLACE,
+    },
+    Command {
+        line: "finite a.csv 1",
+        text: THIRD_LOAD_WITH_A_QUEUE,
+        reads: 10,
+        writes: 1,
+        outcome: Outcome::Refused(Refusal::Finite(FiniteRefusal::LineNotZero)),
+        written: "refused,1,80\n",
+    },
+    Command {
+        line: "pairs a.csv 100",
+        text: TWO_UNITS,
+        reads: 18,
+        writes: 2,
+        outcome: Outcome::Done,
+        written: TWO_UNITS_ALL,
+    },
+    Command {
+        line: "pairs a.csv 0",
+        text: ONE_GROUP,
+        reads: 19,
+        writes: 1,
+        outcome: Outcome::Refused(Refusal::Pair(PairRefusal::PairGroup(1))),
+        written: "refused,1,84,1\n",
     },
     Command {
         line: "solve a.csv",
@@ -157,6 +195,33 @@ const ENDED: &[Ended] = &[
         "unit,A,0\n",
         Outcome::Refused(Refusal::Plan(1, PlanRefusal::BadNumber(1, 3))),
     ),
+    (
+        "finite a.csv 1",
+        "unit,A,0\n",
+        Outcome::Refused(Refusal::Plan(1, PlanRefusal::BadNumber(1, 3))),
+    ),
+    (
+        "finite a.csv 1000",
+        THIRD_LOAD_WITH_A_QUEUE,
+        Outcome::Refused(Refusal::Finite(FiniteRefusal::LineNotZero)),
+    ),
+    ("finite x.csv 1", "", Outcome::Absent(1)),
+    (
+        "pairs a.csv 1",
+        "unit,A,0\n",
+        Outcome::Refused(Refusal::Plan(1, PlanRefusal::BadNumber(1, 3))),
+    ),
+    (
+        "pairs a.csv 1",
+        THIRD_LOAD_WITH_A_QUEUE,
+        Outcome::Refused(Refusal::Pair(PairRefusal::PairLine)),
+    ),
+    (
+        "pairs a.csv 1",
+        ELEVEN_UNITS,
+        Outcome::Refused(Refusal::Pair(PairRefusal::PairUnits(11))),
+    ),
+    ("pairs x.csv 1", "", Outcome::Absent(1)),
     (
         "solve a.csv --time-width 12",
         THREE_UNITS,

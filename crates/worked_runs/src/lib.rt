@@ -8,11 +8,15 @@ mod commands;
 #[cfg(test)]
 mod faults;
 #[cfg(test)]
+mod finite;
+#[cfg(test)]
 mod hostile;
 #[cfg(test)]
 mod in_step;
 #[cfg(test)]
 mod meeting;
+#[cfg(test)]
+mod pairs;
 #[cfg(test)]
 mod reports;
 #[cfg(test)]

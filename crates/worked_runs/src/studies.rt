@@ -1,6 +1,6 @@
 use crate::cases::Text::{Changed, Filled, Plain};
-use crate::cases::Written::{self, Begins, Whole};
-use crate::cases::{Case, Text, check, run};
+use crate::cases::Written::{Begins, Whole};
+use crate::cases::{Ended, check_all, run};
 use hypercube_cli::status;
 use rate_matrix::OpenGate;
 use std::alloc::{AllocError, Global};
@@ -8,21 +8,8 @@ use std::test::Fail;
 
 #[test]
 fn studies_end_so(rt: HostRuntime) -> Result<(), Fail> {
-    for (line, text, status, written) in STUDIES {
-        let case = Case {
-            name: *line,
-            line: *line,
-            text: *text,
-            status: *status,
-            written: *written,
-        };
-        check(&rt, rt.alloc(), &case)?;
-    }
-    Ok(())
+    check_all(&rt, rt.alloc(), STUDIES)
 }
-
-/// A command line, the text of `s.toml`, the status of the end, and what is written.
-type Ended = (&'static str, Text, u8, Written);
 
 const STUDY: &str = "compare s.toml";
 

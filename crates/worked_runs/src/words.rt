@@ -6,7 +6,8 @@ use std::alloc::{AllocError, Global};
 use std::process::Abort;
 use std::test::Fail;
 
-fn name(rt: &impl Abort, alloc: Global, text: &str) -> Result<Name255, AllocError> {
+/// The name of a file.
+pub(crate) fn name(rt: &impl Abort, alloc: Global, text: &str) -> Result<Name255, AllocError> {
     assert!(rt; !text.is_empty() && text.len() <= 255);
     Name255::of(alloc, text)
 }
