@@ -10,11 +10,12 @@ use Rattle.std.proofs.lemmas.List.Quantifiers.{position-Some}
 use Rattle.std.proofs.lemmas.Slice.Eq.{bytes_eq-Decides}
 use Rattle.hyper_model.specs.declared.parts.Atom.{Atom}
 use Rattle.hyper_model.specs.declared.parts.Unit as declared_unit
+use Rattle.hyper_model.specs.Acceptance.{HaveOwnNames}
 use Rattle.atom_table.specs.Entries.{atom_names, unit_names}
 use Rattle.atom_table.specs.Names.{is_among, place_of, place_or_zero}
 
 abbrev pub AreOwn : List (List ℕ) → Type 0
-AreOwn names = (i j : ℕ) → i < length names → j < length names → get_or names i [] ≡ get_or names j [] → i ≡ j
+AreOwn names = HaveOwnNames (length names) (λ place. get_or names place [])
 
 pub own_none : AreOwn []
 own_none i j l h e = absurd (omega arith)

@@ -1,22 +1,22 @@
 -- With any number of waiting places the balance equations have a solution: that of the words, times a power of all service
 -- so that the masses of the states in which calls wait are whole.
-use Rattle.std.proofs.Common.{◌≡◌, ℕ, zero, suc, ◌+◌, ◌-◌, ◌*◌, ◌^◌, ◌<◌, ◌≤◌, Bool, true, false, cond, List, map, refl, sym, ap, ap₂, ◌∙◌, arith}
+use Rattle.std.proofs.Common.{◌≡◌, ℕ, zero, suc, ◌+◌, ◌-◌, ◌*◌, ◌^◌, ◌<◌, ◌≤◌, List, map, refl, sym, ap, ap₂, ◌∙◌, arith}
 use Rattle.std.specs.List.{range_with_len}
 use Rattle.std.proofs.lemmas.List.{get_or-map, length-map}
 use Rattle.std.proofs.lemmas.List.FromFn.{length-map-range_with_len}
 use Rattle.std.proofs.Math.Nat.{mul-pos, pow-suc, pow-zero}
 use Rattle.hyper_model.specs.declared.parts.PlanParts.{PlanParts}
 use Rattle.hyper_model.specs.Sums.{sum_below}
-use Rattle.hyper_model.specs.Plans.{units, service_of, all_calls, all_service, split, IsAccepted}
-use Rattle.hyper_model.specs.Words.{words, full_word, is_busy, turned_word}
-use Rattle.hyper_model.specs.Rates.{IsBalancedWord, coming_flow, leaving_rate, up}
+use Rattle.hyper_model.specs.Plans.{units, all_calls, all_service, split, IsAccepted}
+use Rattle.hyper_model.specs.Words.{words, full_word}
+use Rattle.hyper_model.specs.Rates.{IsBalancedWord, leaving_rate}
 use Rattle.hyper_model.specs.Solutions.{HasSolution, mass_in}
 use Rattle.hyper_model.specs.Laws.{SolvesQueue}
-use Rattle.hyper_model.proofs.Bits.{turned_lt}
 use Rattle.hyper_model.proofs.ListPlaces.{listed_at}
 use Rattle.hyper_model.proofs.PlanLaws.{full_below, has_solution}
 use Rattle.hyper_model.proofs.PlanSums.{service_positive}
 use Rattle.hyper_model.proofs.Sums.{sum-same, sum-scaled}
+use Rattle.hyper_model.proofs.WordTables.{flow_scaled}
 use Rattle.finite_line.specs.FiniteSolutions.{HasFiniteSolution, queue_mass}
 
 -- masses that balance at the words without waiting places, and in the queue from each state to the next, solve it
@@ -38,34 +38,6 @@ solves_queue p room x q some first balanced next = record {
       omega (arith, next k (omega arith), next (k + 1) l, ap (λ c. all_service p * c) more);
   last = λ k is. omega (arith, next k (omega arith));
 }
-
--- masses k times as large have flows k times as large
-flow_scaled : (p : PlanParts) (k : ℕ) (x y : ℕ → ℕ) → ((v : ℕ) → v < words p → y v ≡ k * x v)
-    → (w : ℕ) → w < words p → coming_flow p y w ≡ k * coming_flow p x w
-flow_scaled p k x y larger w l =
-    let at_turned : (n : ℕ) → n < units p → y (turned_word w n) ≡ k * x (turned_word w n) =
-    λ n unit. larger (turned_word w n) (turned_lt (units p) w n l unit) in
-    omega (
-      arith,
-      sum-same (units p) (λ n. cond (is_busy w n) (y (turned_word w n) * up p (turned_word w n) n) 0)
-          (λ n. k * cond (is_busy w n) (x (turned_word w n) * up p (turned_word w n) n) 0)
-          (λ n unit. taken (is_busy w n) k (x (turned_word w n)) (y (turned_word w n)) (up p (turned_word w n) n)
-          (at_turned n unit)),
-      sum-scaled (units p) k (λ n. cond (is_busy w n) (x (turned_word w n) * up p (turned_word w n) n) 0),
-      sum-same (units p) (λ n. cond (is_busy w n) 0 (y (turned_word w n) * (split p * service_of p n)))
-          (λ n. k * cond (is_busy w n) 0 (x (turned_word w n) * (split p * service_of p n)))
-          (λ n unit. left (is_busy w n) k (x (turned_word w n)) (y (turned_word w n)) (split p * service_of p n)
-          (at_turned n unit)),
-      sum-scaled (units p) k (λ n. cond (is_busy w n) 0 (x (turned_word w n) * (split p * service_of p n))),
-    )
-  where
-    taken : (b : Bool) (k a c r : ℕ) → c ≡ k * a → cond b (c * r) 0 ≡ k * cond b (a * r) 0
-    taken true k a c r is = rw is (omega arith)
-    taken false k a c r is = omega arith
-
-    left : (b : Bool) (k a c r : ℕ) → c ≡ k * a → cond b 0 (c * r) ≡ k * cond b 0 (a * r)
-    left true k a c r is = omega arith
-    left false k a c r is = rw is (omega arith)
 
 module _ (p : PlanParts) (a : IsAccepted p) (room : ℕ) (some : 1 ≤ room) where
   found : HasSolution p

@@ -24,7 +24,7 @@ impl FiniteMeasure {
     ghost use Rattle.std.specs.Prelude.{◌≡◌};
     ghost use Rattle.finite_line.specs.FiniteMeasures.{finite_scale};
 
-    /// How many last printed digits make one: 1000 for the mean wait, else 1,000,000.
+    /// How many last printed digits are one: 1000 for the mean wait, else 1,000,000.
     pub fn scale(self) -> u32
         ensures { result ≡ finite_scale self }
     {

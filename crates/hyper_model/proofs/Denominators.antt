@@ -7,14 +7,14 @@ use Rattle.hyper_model.specs.declared.kinds.Line.TheVariants as line
 use Rattle.hyper_model.specs.declared.kinds.Measure.{Measure}
 use Rattle.hyper_model.specs.declared.kinds.Measure.TheVariants as measure
 use Rattle.hyper_model.specs.declared.parts.PlanParts.{PlanParts}
-use Rattle.hyper_model.specs.Plans.{all_calls, all_service, district_calls, split, IsAccepted}
+use Rattle.hyper_model.specs.Plans.{all_calls, all_service, district_calls, split, IsAcceptedUpTo}
 use Rattle.hyper_model.specs.Solutions.{mass_in, IsSolution}
 use Rattle.hyper_model.specs.Measures.{mass, base, loss_on, delay_on, queue_on, wait_on, measure_of, is_without, IsInRange}
 use Rattle.hyper_model.proofs.Takers.{split_positive}
 use Rattle.hyper_model.proofs.PlanLaws.{stable_of}
 use Rattle.hyper_model.proofs.Masses.{mass_positive, base_positive, service_total_positive, dispatched_by_positive, dispatched_all_positive, dispatched_into_positive}
 
-module _ (p : PlanParts) (a : IsAccepted p) (xs : List ℕ) (z : ℕ) (s : IsSolution p xs z) where
+module _ {most : ℕ} (p : PlanParts) (a : IsAcceptedUpTo most p) (xs : List ℕ) (z : ℕ) (s : IsSolution p xs z) where
   calls : 0 < all_calls p
   calls = omega (arith, a.atoms.calls.low)
 

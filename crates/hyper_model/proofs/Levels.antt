@@ -3,7 +3,7 @@ use Rattle.std.proofs.Common.{◌≡◌, ◌≢◌, ℕ, ◌+◌, ◌-◌, ◌*�
 use Rattle.std.proofs.lemmas.Bool.Decides.{nat_tests}
 use Rattle.hyper_model.specs.declared.parts.PlanParts.{PlanParts}
 use Rattle.hyper_model.specs.Sums.{sum_below}
-use Rattle.hyper_model.specs.Plans.{units, service_of, all_calls, split, IsAccepted}
+use Rattle.hyper_model.specs.Plans.{units, service_of, all_calls, split, IsAcceptedUpTo}
 use Rattle.hyper_model.specs.Words.{words, is_busy, full_word, turned_word}
 use Rattle.hyper_model.specs.Rates.{up}
 use Rattle.hyper_model.specs.Solutions.{mass_in}
@@ -62,7 +62,7 @@ guarded : (n : ℕ) (b : Bool) (f : ℕ → ℕ) → sum_below n (λ i. cond b (
 guarded n true f = refl
 guarded n false f = sum_none n (λ i. 0) (λ i l. refl)
 
-module _ (p : PlanParts) (a : IsAccepted p) (x : ℕ → ℕ) (k : ℕ) (l : k < units p) where
+module _ {most : ℕ} (p : PlanParts) (a : IsAcceptedUpTo most p) (x : ℕ → ℕ) (k : ℕ) (l : k < units p) where
   -- what unit n moves out of the words of at most k busy units, and into them
   abbrev out : ℕ → ℕ → ℕ
   out w n = cond (leb (level (units p) w) k) (turn_rate p w n) 0
@@ -232,7 +232,7 @@ module _ (p : PlanParts) (a : IsAccepted p) (x : ℕ → ℕ) (k : ℕ) (l : k <
             sum-scaled (words p) (split p * all_calls p) (λ w. cond (eqb (level (units p) w) k) (x w) 0),
           ))
 
-pub has_levels : (p : PlanParts) → IsAccepted p → LevelsLaw p
+pub has_levels : {most : ℕ} (p : PlanParts) → IsAcceptedUpTo most p → LevelsLaw p
 has_levels p a rate equal xs z s k l =
     levels_are p a (mass_in xs) k l
     (λ w h. ap (λ c. mass_in xs w * c) (sym (leaving_is p a w h)) ∙ s.words.balanced w h ∙ coming_is p (mass_in xs) w)

@@ -8,7 +8,7 @@ use Rattle.hyper_model.specs.declared.kinds.Line.{Line}
 use Rattle.hyper_model.specs.declared.kinds.Line.TheVariants as line
 use Rattle.hyper_model.specs.declared.parts.PlanParts.{PlanParts}
 use Rattle.hyper_model.specs.Sums.{sum_below}
-use Rattle.hyper_model.specs.Plans.{units, atoms, service_of, calls_of, all_calls, all_service, is_inside, district_calls, split, IsAccepted}
+use Rattle.hyper_model.specs.Plans.{units, atoms, service_of, calls_of, all_calls, all_service, is_inside, district_calls, split, IsAcceptedUpTo}
 use Rattle.hyper_model.specs.Words.{words, is_busy, full_word, turned_word, takes, taker_count, portion}
 use Rattle.hyper_model.specs.Solutions.{mass_in, IsSolution}
 use Rattle.hyper_model.specs.Measures.{mass, queued_mass_on, queued_mass, base_on, base, taken_mass, dispatch_flow, dispatch_flow_inside, dispatch_flow_outside, dispatch_flow_by}
@@ -25,10 +25,10 @@ pub mass_positive : (p : PlanParts) (xs : List ℕ) (z : ℕ) → IsSolution p x
 mass_positive p xs z s = omega (arith, s.words.positive)
 
 -- the word in which nobody is busy is not the full one
-pub empty_below_full : (p : PlanParts) → IsAccepted p → 0 < full_word p
+pub empty_below_full : {most : ℕ} (p : PlanParts) → IsAcceptedUpTo most p → 0 < full_word p
 empty_below_full p a = let two : 2 ^ 1 ≤ 2 ^ units p = pow_mono a.units.number.low in omega (arith, two)
 
-pub base_positive : (p : PlanParts) → IsAccepted p → (xs : List ℕ) (z : ℕ) → IsSolution p xs z
+pub base_positive : {most : ℕ} (p : PlanParts) → IsAcceptedUpTo most p → (xs : List ℕ) (z : ℕ) → IsSolution p xs z
     → 0 < base p (mass_in xs) z
 base_positive p a xs z s = on_line p.line
   where
@@ -52,7 +52,7 @@ others_busy : (p : PlanParts) (n m : ℕ) → m < units p → m ≢ n → is_bus
 others_busy p n m l ne = busy_turned_other (full_word p) n m ne ∙ full_busy (units p) m l
 
 -- in it every call goes to unit n
-pub alone_takes : (p : PlanParts) → IsAccepted p → (n j : ℕ) → n < units p → j < atoms p
+pub alone_takes : {most : ℕ} (p : PlanParts) → IsAcceptedUpTo most p → (n j : ℕ) → n < units p → j < atoms p
     → takes p j (alone_free p n) n ≡ true
 alone_takes p a n j l k =
     let some = takers_positive p a j (alone_free p n) n k l (alone_is_free p n l) in
@@ -67,7 +67,7 @@ alone_takes p a n j l k =
           omega (arith, m.2, none_there)
     ]))
 
-pub portion_positive : (p : PlanParts) → IsAccepted p → (j w : ℕ) → j < atoms p → 0 < taker_count p j w → 0 < portion p j w
+pub portion_positive : {most : ℕ} (p : PlanParts) → IsAcceptedUpTo most p → (j w : ℕ) → j < atoms p → 0 < taker_count p j w → 0 < portion p j w
 portion_positive p a j w l some = elim (cases_lt 0 (portion p j w)) [
   | inl h ↦ h
   | inr g ↦
@@ -75,7 +75,7 @@ portion_positive p a j w l some = elim (cases_lt 0 (portion p j w)) [
       absurd (omega (arith, portion_is p a j w l some, split_positive p, ap (λ c. taker_count p j w * c) none))
 ]
 
-pub taken_positive : (p : PlanParts) → IsAccepted p → (xs : List ℕ) (z : ℕ) → IsSolution p xs z
+pub taken_positive : {most : ℕ} (p : PlanParts) → IsAcceptedUpTo most p → (xs : List ℕ) (z : ℕ) → IsSolution p xs z
     → (n j : ℕ) → n < units p → j < atoms p → 0 < taken_mass p (mass_in xs) n j
 taken_positive p a xs z s n j l k =
     let w : ℕ = alone_free p n in
@@ -89,7 +89,7 @@ taken_positive p a xs z s n j l k =
       place_le_sum (words p) (λ v. cond (takes p j v n) (mass_in xs v * portion p j v) 0) w below,
     )
 
-pub service_total_positive : (p : PlanParts) → IsAccepted p → 0 < all_service p
+pub service_total_positive : {most : ℕ} (p : PlanParts) → IsAcceptedUpTo most p → 0 < all_service p
 service_total_positive p a =
     omega (
       arith,
@@ -98,13 +98,13 @@ service_total_positive p a =
     )
 
 -- each unit answers calls of each atom that has any
-pub dispatched_positive : (p : PlanParts) → IsAccepted p → (xs : List ℕ) (z : ℕ) → IsSolution p xs z
+pub dispatched_positive : {most : ℕ} (p : PlanParts) → IsAcceptedUpTo most p → (xs : List ℕ) (z : ℕ) → IsSolution p xs z
     → (n j : ℕ) → n < units p → j < atoms p → 0 < calls_of p j → 0 < dispatch_flow p (mass_in xs) z n j
 dispatched_positive p a xs z s n j l k h =
     let taken = mul-pos (service_total_positive p a) (taken_positive p a xs z s n j l k) in
     mul-pos h (omega (arith, taken))
 
-pub dispatched_by_positive : (p : PlanParts) → IsAccepted p → (xs : List ℕ) (z : ℕ) → IsSolution p xs z
+pub dispatched_by_positive : {most : ℕ} (p : PlanParts) → IsAcceptedUpTo most p → (xs : List ℕ) (z : ℕ) → IsSolution p xs z
     → (n : ℕ) → n < units p → 0 < dispatch_flow_by p (mass_in xs) z n
 dispatched_by_positive p a xs z s n l =
     let j = positive_place (atoms p) (calls_of p) a.atoms.calls.low in
@@ -114,7 +114,7 @@ dispatched_by_positive p a xs z s n l =
       place_le_sum (atoms p) (dispatch_flow p (mass_in xs) z n) j.0 j.1,
     )
 
-pub dispatched_all_positive : (p : PlanParts) → IsAccepted p → (xs : List ℕ) (z : ℕ) → IsSolution p xs z
+pub dispatched_all_positive : {most : ℕ} (p : PlanParts) → IsAcceptedUpTo most p → (xs : List ℕ) (z : ℕ) → IsSolution p xs z
     → 0 < sum_below (units p) (dispatch_flow_by p (mass_in xs) z)
 dispatched_all_positive p a xs z s =
     omega (
@@ -133,7 +133,7 @@ district_atom p m h =
     (λ f. absurd (let none = ap (λ c. cond c (calls_of p j.0) 0) f in omega (arith, j.2, none)))
 
 -- and each unit answers calls of it
-pub dispatched_inside_positive : (p : PlanParts) → IsAccepted p → (xs : List ℕ) (z : ℕ) → IsSolution p xs z
+pub dispatched_inside_positive : {most : ℕ} (p : PlanParts) → IsAcceptedUpTo most p → (xs : List ℕ) (z : ℕ) → IsSolution p xs z
     → (n m : ℕ) → n < units p → 0 < district_calls p m → 0 < dispatch_flow_inside p (mass_in xs) z n m
 dispatched_inside_positive p a xs z s n m l h =
     let j = district_atom p m h in
@@ -144,7 +144,7 @@ dispatched_inside_positive p a xs z s n m l h =
       place_le_sum (atoms p) (λ i. cond (is_inside p m i) (dispatch_flow p (mass_in xs) z n i) 0) j.0 j.1,
     )
 
-pub dispatched_into_positive : (p : PlanParts) → IsAccepted p → (xs : List ℕ) (z : ℕ) → IsSolution p xs z
+pub dispatched_into_positive : {most : ℕ} (p : PlanParts) → IsAcceptedUpTo most p → (xs : List ℕ) (z : ℕ) → IsSolution p xs z
     → (m : ℕ) → 0 < district_calls p m → 0 < sum_below (units p) (λ n. dispatch_flow_inside p (mass_in xs) z n m)
 dispatched_into_positive p a xs z s m h =
     omega (
@@ -168,7 +168,7 @@ dispatched_parts p x z n m =
     turned_round false k = refl
 
 -- in a word that is not full, all shares of a call are taken
-shares_of_word : (p : PlanParts) → IsAccepted p → (x : ℕ → ℕ) (j w : ℕ) → j < atoms p → w < full_word p
+shares_of_word : {most : ℕ} (p : PlanParts) → IsAcceptedUpTo most p → (x : ℕ → ℕ) (j w : ℕ) → j < atoms p → w < full_word p
     → sum_below (units p) (λ n. cond (takes p j w n) (x w * portion p j w) 0) ≡ split p * x w
 shares_of_word p a x j w l h =
     let low : w ≢ full_word p = omega arith in
@@ -190,7 +190,7 @@ shares_of_full p x j =
     (not_taken p j (full_word p) n (full_busy (units p) n l)))
 
 -- the calls of an atom that are answered at once come in the words that are not full
-pub taken_all : (p : PlanParts) → IsAccepted p → (x : ℕ → ℕ) (j : ℕ) → j < atoms p
+pub taken_all : {most : ℕ} (p : PlanParts) → IsAcceptedUpTo most p → (x : ℕ → ℕ) (j : ℕ) → j < atoms p
     → sum_below (units p) (λ n. taken_mass p x n j) ≡ split p * sum_below (full_word p) x
 taken_all p a x j l =
     let by_word : ℕ → ℕ = λ w. sum_below (units p) (λ n. cond (takes p j w n) (x w * portion p j w) 0) in
@@ -204,7 +204,7 @@ taken_all p a x j l =
     )
 
 -- and with those that wait they are all that are answered
-pub taken_room : (p : PlanParts) → IsAccepted p → (x : ℕ → ℕ) (z j : ℕ) → j < atoms p
+pub taken_room : {most : ℕ} (p : PlanParts) → IsAcceptedUpTo most p → (x : ℕ → ℕ) (z j : ℕ) → j < atoms p
     → sum_below (units p) (λ n. taken_mass p x n j) + split p * queued_mass p x z ≡ split p * base p x z
 taken_room p a x z j l = ap (λ c. c + split p * queued_mass p x z) (taken_all p a x j l) ∙ on_line p.line
   where
@@ -214,7 +214,7 @@ taken_room p a x z j l = ap (λ c. c + split p * queued_mass p x z) (taken_all p
     on_line line.Infinite = omega (arith, ap (λ c. split p * c) (all_words p x))
 
 -- so the dispatches to an atom, all units together, are its part of all that is answered
-pub dispatched_to_atom : (p : PlanParts) → IsAccepted p → (x : ℕ → ℕ) (z j : ℕ) → j < atoms p
+pub dispatched_to_atom : {most : ℕ} (p : PlanParts) → IsAcceptedUpTo most p → (x : ℕ → ℕ) (z j : ℕ) → j < atoms p
     → sum_below (units p) (λ n. dispatch_flow p x z n j) ≡ calls_of p j * (all_service p * split p * base p x z)
 dispatched_to_atom p a x z j l =
     sum-scaled (units p) (calls_of p j)
@@ -231,7 +231,7 @@ dispatched_to_atom p a x z j l =
     ))
 
 -- and so are all dispatches
-pub dispatched_all : (p : PlanParts) → IsAccepted p → (x : ℕ → ℕ) (z : ℕ)
+pub dispatched_all : {most : ℕ} (p : PlanParts) → IsAcceptedUpTo most p → (x : ℕ → ℕ) (z : ℕ)
     → sum_below (units p) (dispatch_flow_by p x z) ≡ all_calls p * all_service p * split p * base p x z
 dispatched_all p a x z =
     sum-swap (units p) (atoms p) (λ n j. dispatch_flow p x z n j)
@@ -241,7 +241,7 @@ dispatched_all p a x z =
     ∙ omega (arith, sum-scaled (atoms p) (all_service p * split p * base p x z) (calls_of p))
 
 -- and those to a district
-pub dispatched_into : (p : PlanParts) → IsAccepted p → (x : ℕ → ℕ) (z m : ℕ)
+pub dispatched_into : {most : ℕ} (p : PlanParts) → IsAcceptedUpTo most p → (x : ℕ → ℕ) (z m : ℕ)
     → sum_below (units p) (λ n. dispatch_flow_inside p x z n m)
     ≡ district_calls p m * all_service p * split p * base p x z
 dispatched_into p a x z m =

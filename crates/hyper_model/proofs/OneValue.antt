@@ -8,7 +8,7 @@ use Rattle.hyper_model.specs.declared.kinds.Measure.{Measure}
 use Rattle.hyper_model.specs.declared.kinds.Measure.TheVariants as measure
 use Rattle.hyper_model.specs.declared.parts.PlanParts.{PlanParts}
 use Rattle.hyper_model.specs.Sums.{sum_below}
-use Rattle.hyper_model.specs.Plans.{units, atoms, service_of, calls_of, all_calls, all_service, is_inside, district_calls, split, IsAccepted}
+use Rattle.hyper_model.specs.Plans.{units, atoms, service_of, calls_of, all_calls, all_service, is_inside, district_calls, split, IsAcceptedUpTo}
 use Rattle.hyper_model.specs.Words.{words, is_busy, full_word, takes, portion}
 use Rattle.hyper_model.specs.Solutions.{mass_in}
 use Rattle.hyper_model.specs.Measures.{Ratio, mass, queued_mass_on, base_on, taken_mass, dispatch_flow, dispatch_flow_inside, dispatch_flow_outside, dispatch_flow_by, mean_travel, travel_from_calls, travel_among_calls, travel_flow, travel_to, loss_on, delay_on, queue_on, wait_on, measure_of}
@@ -200,7 +200,7 @@ module _ (p : PlanParts) (c d : ℕ) (x y : ℕ → ℕ) (z t : ℕ) (c_positive
       (alike_times c d (calls_of p j) (travel_to p x z j) (travel_to p y t j) (way_to j))))
       (omega (arith, ap (λ k. 1000 * all_calls p * split p * district_calls p n * k) (answered p.line)))
 
-pub have_one_value : (p : PlanParts) → IsAccepted p → HaveOneValue p
+pub have_one_value : {most : ℕ} (p : PlanParts) → IsAcceptedUpTo most p → HaveOneValue p
 have_one_value p a xs ys z t s r m =
     same_measure p (mass_in ys 0) (mass_in xs 0) (mass_in xs) (mass_in ys) z t
     (word_positive p a ys r.words 0 (words_positive p)) (word_positive p a xs s.words 0 (words_positive p))

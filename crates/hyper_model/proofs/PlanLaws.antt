@@ -7,7 +7,7 @@ use Rattle.hyper_model.specs.declared.kinds.Line.{Line}
 use Rattle.hyper_model.specs.declared.kinds.Line.TheVariants as line
 use Rattle.hyper_model.specs.declared.parts.PlanParts.{PlanParts}
 use Rattle.hyper_model.specs.Sums.{sum_below}
-use Rattle.hyper_model.specs.Plans.{units, all_calls, all_service, IsStable, IsAccepted}
+use Rattle.hyper_model.specs.Plans.{units, all_calls, all_service, IsStable, IsAcceptedUpTo}
 use Rattle.hyper_model.specs.Words.{words, full_word, turned_word}
 use Rattle.hyper_model.specs.Solutions.{mass_in, SolvesWords, IsTail, IsSolution, HasSolution}
 use Rattle.hyper_model.specs.Tables.{SolvesTable, word_table}
@@ -22,14 +22,14 @@ pub words_positive : (p : PlanParts) → 0 < words p
 words_positive p = pow_pos (units p)
 
 -- a list solves the balance of the words if it solves that of their table
-pub solves_word_table : (p : PlanParts) → IsAccepted p → (xs : List ℕ) → SolvesWords p xs
+pub solves_word_table : {most : ℕ} (p : PlanParts) → IsAcceptedUpTo most p → (xs : List ℕ) → SolvesWords p xs
     → SolvesTable (words p) (word_table p) (mass_in xs)
 solves_word_table p a xs s = record {
   positive = s.positive;
   balanced = λ w l. (balance_is p a (mass_in xs) w l).0 (s.balanced w l);
 }
 
-pub table_solves_words : (p : PlanParts) → IsAccepted p → (xs : List ℕ) → length xs ≡ words p
+pub table_solves_words : {most : ℕ} (p : PlanParts) → IsAcceptedUpTo most p → (xs : List ℕ) → length xs ≡ words p
     → SolvesTable (words p) (word_table p) (mass_in xs) → SolvesWords p xs
 table_solves_words p a xs e s = record {
   one_each = e;
@@ -37,7 +37,7 @@ table_solves_words p a xs e s = record {
   balanced = λ w l. (balance_is p a (mass_in xs) w l).1 (s.balanced w l);
 }
 
-pub solves_words : (p : PlanParts) → IsAccepted p → (x : ℕ → ℕ) → SolvesTable (words p) (word_table p) x
+pub solves_words : {most : ℕ} (p : PlanParts) → IsAcceptedUpTo most p → (x : ℕ → ℕ) → SolvesTable (words p) (word_table p) x
     → SolvesWords p (listed (words p) x)
 solves_words p a x s =
     table_solves_words p a (listed (words p) x) (length-map-range_with_len x 0 (words p))
@@ -61,7 +61,7 @@ full_below p = omega (arith, words_full (units p))
 
 -- if calls are lost, a solution of the words is one; if they wait, its masses are multiplied by the
 -- difference of the rates, so that the mass of the waiting calls is whole
-pub has_solution : (p : PlanParts) → IsAccepted p → HasSolution p
+pub has_solution : {most : ℕ} (p : PlanParts) → IsAcceptedUpTo most p → HasSolution p
 has_solution p a = on_line p.line refl
   where
     x : (x : ℕ → ℕ) × SolvesTable (words p) (word_table p) x
@@ -106,7 +106,7 @@ carried n e x s i j l k h r = elim (cases_lt 0 (x j)) [
       ))
 ]
 
-module _ (p : PlanParts) (a : IsAccepted p) (x : ℕ → ℕ) (s : SolvesTable (words p) (word_table p) x) where
+module _ {most : ℕ} (p : PlanParts) (a : IsAcceptedUpTo most p) (x : ℕ → ℕ) (s : SolvesTable (words p) (word_table p) x) where
   -- calls fill the fleet: from a word with mass one comes to the full word
   full_from : (fuel w : ℕ) → w < words p → words p ≤ w + fuel → 0 < x w → 0 < x (full_word p)
   full_from zero w l f h = absurd (omega arith)
@@ -141,7 +141,7 @@ module _ (p : PlanParts) (a : IsAccepted p) (x : ℕ → ℕ) (s : SolvesTable (
       (full_from (words p) 0 (words_positive p) (omega arith)
       (first_positive (words p) (word_table p) x (words_descend p a) s))
 
-pub word_positive : (p : PlanParts) → IsAccepted p → (xs : List ℕ) → SolvesWords p xs
+pub word_positive : {most : ℕ} (p : PlanParts) → IsAcceptedUpTo most p → (xs : List ℕ) → SolvesWords p xs
     → (w : ℕ) → w < words p → 0 < mass_in xs w
 word_positive p a xs s w l = each_positive p a (mass_in xs) (solves_word_table p a xs s) w l
 
@@ -150,31 +150,31 @@ pub tail_of : (p : PlanParts) (xs : List ℕ) (z : ℕ) → IsSolution p xs z �
     → (all_service p - all_calls p) * z ≡ all_calls p * mass_in xs (full_word p)
 tail_of p xs z s e = subst (λ l. IsTail l p xs z) e s.tail
 
-pub stable_of : (p : PlanParts) → IsAccepted p → p.line ≡ line.Infinite → all_calls p < all_service p
+pub stable_of : {most : ℕ} (p : PlanParts) → IsAcceptedUpTo most p → p.line ≡ line.Infinite → all_calls p < all_service p
 stable_of p a e = subst (λ l. IsStable l (all_calls p) (all_service p)) e a.stable
 
-pub words_are_positive : (p : PlanParts) → IsAccepted p → AreWordsPositive p
+pub words_are_positive : {most : ℕ} (p : PlanParts) → IsAcceptedUpTo most p → AreWordsPositive p
 words_are_positive p a xs z s w l = omega (arith, word_positive p a xs s.words w l)
 
 some_waiting : (d z : ℕ) → 0 < d * z → 1 ≤ z
 some_waiting d zero h = absurd (omega arith)
 some_waiting d (suc z) h = omega arith
 
-pub tail_is_positive : (p : PlanParts) → IsAccepted p → IsTailPositive p
+pub tail_is_positive : {most : ℕ} (p : PlanParts) → IsAcceptedUpTo most p → IsTailPositive p
 tail_is_positive p a xs z s e =
     let full = word_positive p a xs s.words (full_word p) (full_below p) in
     some_waiting (all_service p - all_calls p) z (omega (arith, tail_of p xs z s e, mul-pos a.atoms.calls.low full))
 
-pub words_proportional : (p : PlanParts) → IsAccepted p → (xs ys : List ℕ) → SolvesWords p xs → SolvesWords p ys
+pub words_proportional : {most : ℕ} (p : PlanParts) → IsAcceptedUpTo most p → (xs ys : List ℕ) → SolvesWords p xs → SolvesWords p ys
     → (v w : ℕ) → v < words p → w < words p → mass_in xs v * mass_in ys w ≡ mass_in xs w * mass_in ys v
 words_proportional p a xs ys s t v w l k =
     proportional (words p) (word_table p) (mass_in xs) (mass_in ys) (words_descend p a)
     (solves_word_table p a xs s) (solves_word_table p a ys t) v w l k
 
-pub words_are_proportional : (p : PlanParts) → IsAccepted p → AreWordsProportional p
+pub words_are_proportional : {most : ℕ} (p : PlanParts) → IsAcceptedUpTo most p → AreWordsProportional p
 words_are_proportional p a xs ys z t s r v w l k = words_proportional p a xs ys s.words r.words v w l k
 
-pub tail_is_proportional : (p : PlanParts) → IsAccepted p → IsTailProportional p
+pub tail_is_proportional : {most : ℕ} (p : PlanParts) → IsAcceptedUpTo most p → IsTailProportional p
 tail_is_proportional p a xs ys z t s r v l = on_line p.line refl
   where
     on_line : (l : Line) → p.line ≡ l → mass_in xs v * t ≡ z * mass_in ys v

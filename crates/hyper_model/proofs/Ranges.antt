@@ -49,14 +49,15 @@ pub flat_more : {X : Type 0} (f : ℕ → List X) (before after : List X) (n : �
     → after ≡ flat_map f (range_with_len 0 (n + 1))
 flat_more f before after n is_before is_after = is_after ∙ ap (λ xs. xs ++ f n) is_before ∙ sym (flat_next f n)
 
--- what holds of the item for each number holds of all
-all_from : {X : Type 0} (P : X → Type 0) (f : ℕ → X) (first n : ℕ)
+-- what holds of the item for each number from `first` on holds of all
+pub all_from : {X : Type 0} (P : X → Type 0) (f : ℕ → X) (first n : ℕ)
     → ((i : ℕ) → first ≤ i → i < first + n → P (f i)) → All P (map f (range_with_len first n))
 all_from P f first zero h = All-nil P
 all_from P f first (suc n) h =
     All-cons P (f first) (map f (range_with_len (first + 1) n)) (h first (omega arith) (omega arith))
     (all_from P f (first + 1) n (λ i low high. h i (omega arith) (omega arith)))
 
+-- what holds of the item for each number holds of all
 pub all_range : {X : Type 0} (P : X → Type 0) (f : ℕ → X) (n : ℕ) → ((i : ℕ) → i < n → P (f i))
     → All P (map f (range_with_len 0 n))
 all_range P f n h = all_from P f 0 n (λ i low high. h i (omega arith))

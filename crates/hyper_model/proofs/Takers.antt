@@ -1,15 +1,15 @@
 -- Who takes a call: a free unit of the first group that has one. The takers of a call share it without rest.
-use Rattle.std.proofs.Common.{◌≡◌, ℕ, zero, suc, ◌*◌, ◌/◌, ◌<◌, ◌≤◌, Bool, true, false, not, cond, eqb, ◌&&◌, ◌||◌, List, [], ◌∷◌, length, refl, sym, ap, ◌∙◌, true≢false, eqb-true, arith}
+use Rattle.std.proofs.Common.{◌≡◌, ℕ, zero, suc, ◌*◌, ◌/◌, ◌<◌, ◌≤◌, Bool, true, false, not, cond, eqb, ◌&&◌, ◌||◌, List, [], ◌∷◌, length, refl, sym, ap, ◌∙◌, true≢false, eqb-true, leb, inl, inr, arith}
 use Rattle.std.specs.Prelude.{All, sum_by, count_by, ◌==◌}
 use Rattle.std.specs.List.{list_any}
-use Rattle.std.proofs.lemmas.Bool.{and_parts, or_parts, not-true}
+use Rattle.std.proofs.lemmas.Bool.{and_parts, or_parts, not-true, cases_eq}
 use Rattle.std.proofs.lemmas.Bool.Decides.{nat_tests}
 use Rattle.std.proofs.lemmas.List.Elements.{All-head, All-tail}
 use Rattle.std.proofs.lemmas.List.Sums.{sum_by-cons}
-use Rattle.std.proofs.Math.Nat.{div-le_self, mul-le-mul_left, mul-pos}
+use Rattle.std.proofs.Math.Nat.{div-le_self, mul-le-mul_left, mul-pos, mul-div_cancel_left}
 use Rattle.hyper_model.specs.declared.parts.PlanParts.{PlanParts}
 use Rattle.hyper_model.specs.Sums.{sum_below}
-use Rattle.hyper_model.specs.Plans.{units, atoms, calls_of, all_calls, groups_of, are_single, all_below, split, IsAccepted}
+use Rattle.hyper_model.specs.Plans.{units, atoms, calls_of, all_calls, groups_of, are_single, all_below, factorial, common_multiple, split, IsAcceptedUpTo}
 use Rattle.hyper_model.specs.Words.{is_busy, is_free, has_free, is_taker, takes, taker_count, portion}
 use Rattle.hyper_model.specs.Rates.{up}
 use Rattle.hyper_model.proofs.Sums.{on_test, sum-same, sum-scaled, sum-swap, sum-le, sum_none, place_le_sum, positive_place, count_le, count_of_one, choices_sum}
@@ -149,34 +149,70 @@ all_below_at n test h k l = on_test (test k) (λ t. t)
     (let none = eqb-true (sum_below n (λ i. cond (test i) 0 1)) 0 h in
     omega (arith, none, place_le_sum n (λ i. cond (test i) 0 1) k l, ap {B = ℕ} (λ c. cond c 0 1) f)))
 
-pub split_positive : (p : PlanParts) → 0 < split p
-split_positive p = one (all_below (atoms p) (λ j. are_single (groups_of p j)))
-  where
-    one : (b : Bool) → 0 < cond b 1 27720
-    one true = omega arith
-    one false = omega arith
+-- the product of the numbers from 1 to n is a multiple of each of them
+factorial_parts : (n f : ℕ) → 0 < f → f ≤ n → (q : ℕ) × (factorial n ≡ f * q)
+unfolding Rattle.hyper_model.specs.Plans.factorial
+factorial_parts zero f h l = absurd (omega arith)
+factorial_parts (suc n) f h l = elim (cases_eq f (suc n)) [
+  | inl e ↦ (factorial n, omega (arith, ap (λ c. c * factorial n) e))
+  | inr ne ↦
+      let q = factorial_parts n f h (omega (arith, l, ne)) in
+      (q.0 * suc n, omega (arith, ap (λ c. c * suc n) q.1))
+]
 
-pub split_le : (p : PlanParts) → split p ≤ 27720
-split_le p = one (all_below (atoms p) (λ j. are_single (groups_of p j)))
+factorial_positive : (n : ℕ) → 0 < factorial n
+unfolding Rattle.hyper_model.specs.Plans.factorial
+factorial_positive zero = omega arith
+factorial_positive (suc n) = mul-pos (factorial_positive n) (omega arith)
+
+-- each number of units from 1 to n divides their common multiple
+divides_common : (n f : ℕ) → 0 < f → f ≤ n → f * (common_multiple n / f) ≡ common_multiple n
+divides_common n f h l = on_test (leb n 12)
+    (λ t.
+    let is : common_multiple n ≡ 27720 = ap {B = ℕ} (λ c. cond c 27720 (factorial n)) t in
+    let few : f ≤ 12 = let all : n ≤ 12 = grind (arith, nat_tests, t) in omega (arith, all, l) in
+    ap (λ s. f * (s / f)) is ∙ divides_all f h few ∙ sym is)
+    (λ more.
+    let is : common_multiple n ≡ factorial n = ap {B = ℕ} (λ c. cond c 27720 (factorial n)) more in
+    let q = factorial_parts n f h l in
+    let product : common_multiple n ≡ f * q.0 = is ∙ q.1 in
+    ap (λ s. f * (s / f)) product ∙ ap (λ c. f * c) (mul-div_cancel_left q.0 h) ∙ sym product)
+
+pub split_positive : (p : PlanParts) → 0 < split p
+split_positive p = one (all_below (atoms p) (λ j. are_single (groups_of p j))) (leb (units p) 12)
   where
-    one : (b : Bool) → cond b 1 27720 ≤ 27720
+    one : (b c : Bool) → 0 < cond b 1 (cond c 27720 (factorial (units p)))
+    one true c = omega arith
+    one false true = omega arith
+    one false false = factorial_positive (units p)
+
+-- up to 12 units it is small
+pub split_le : (p : PlanParts) → units p ≤ 12 → split p ≤ 27720
+split_le p few = one (all_below (atoms p) (λ j. are_single (groups_of p j)))
+  where
+    common : common_multiple (units p) ≡ 27720
+    common =
+        let up_to : leb (units p) 12 ≡ true = grind (arith, nat_tests, few) in
+        ap {B = ℕ} (λ c. cond c 27720 (factorial (units p))) up_to
+
+    one : (b : Bool) → cond b 1 (common_multiple (units p)) ≤ 27720
     one true = omega arith
-    one false = omega arith
+    one false = omega (arith, common)
 
 -- the takers of a call share it without rest
-pub portion_is : (p : PlanParts) → IsAccepted p → (j w : ℕ) → j < atoms p → 0 < taker_count p j w
+pub portion_is : {most : ℕ} (p : PlanParts) → IsAcceptedUpTo most p → (j w : ℕ) → j < atoms p → 0 < taker_count p j w
     → taker_count p j w * portion p j w ≡ split p
 portion_is p a j w l some = on_test (all_below (atoms p) (λ i. are_single (groups_of p i)))
     (λ t.
-    let g : split p ≡ 1 = ap {B = ℕ} (λ c. cond c 1 27720) t in
+    let g : split p ≡ 1 = ap {B = ℕ} (λ c. cond c 1 (common_multiple (units p))) t in
     let single : taker_count p j w ≤ 1 =
     takers_single (units p) (groups_of p j) w (all_below_at (atoms p) (λ i. are_single (groups_of p i)) t j l) in
     shared_one (taker_count p j w) (split p) some single g)
     (λ f.
-    let g : split p ≡ 27720 = ap {B = ℕ} (λ c. cond c 1 27720) f in
-    let few : taker_count p j w ≤ 12 =
-    omega (arith, count_le (units p) (λ n. takes p j w n), a.units.number.high) in
-    ap (λ s. taker_count p j w * (s / taker_count p j w)) g ∙ divides_all (taker_count p j w) some few ∙ sym g)
+    let g : split p ≡ common_multiple (units p) = ap {B = ℕ} (λ c. cond c 1 (common_multiple (units p))) f in
+    let few : taker_count p j w ≤ units p = count_le (units p) (λ n. takes p j w n) in
+    ap (λ s. taker_count p j w * (s / taker_count p j w)) g
+    ∙ divides_common (units p) (taker_count p j w) some few ∙ sym g)
   where
     shared_one : (f s : ℕ) → 0 < f → f ≤ 1 → s ≡ 1 → f * (s / f) ≡ s
     shared_one zero s h l e = absurd (omega arith)
@@ -184,7 +220,7 @@ portion_is p a j w l some = on_test (all_below (atoms p) (λ i. are_single (grou
     shared_one (suc (suc f)) s h l e = absurd (omega arith)
 
 -- in a word with a free unit, somebody takes the call
-pub takers_positive : (p : PlanParts) → IsAccepted p → (j w n : ℕ) → j < atoms p → n < units p
+pub takers_positive : {most : ℕ} (p : PlanParts) → IsAcceptedUpTo most p → (j w n : ℕ) → j < atoms p → n < units p
     → is_busy w n ≡ false → 0 < taker_count p j w
 takers_positive p a j w n l k f =
     let groups = a.lists.grouped j l in
@@ -203,7 +239,7 @@ takers_none p j w h =
     sum_none (units p) (λ n. cond (takes p j w n) 1 0) (λ n l. ap {B = ℕ} (λ c. cond c 1 0) (not_taken p j w n (h n l)))
 
 -- the shares of a call of atom j, all units together
-pub shares_sum : (p : PlanParts) → IsAccepted p → (j w n : ℕ) → j < atoms p → n < units p → is_busy w n ≡ false
+pub shares_sum : {most : ℕ} (p : PlanParts) → IsAcceptedUpTo most p → (j w n : ℕ) → j < atoms p → n < units p → is_busy w n ≡ false
     → sum_below (units p) (λ m. cond (takes p j w m) (portion p j w) 0) ≡ split p
 shares_sum p a j w n l k f =
     omega (
@@ -219,7 +255,7 @@ up_busy p w n b =
     (λ j l. ap (λ c. cond c (calls_of p j * portion p j w) 0) (not_taken p j w n b))
 
 -- in a word with a free unit, all calls go to somebody
-pub up_all : (p : PlanParts) → IsAccepted p → (w n : ℕ) → n < units p → is_busy w n ≡ false
+pub up_all : {most : ℕ} (p : PlanParts) → IsAcceptedUpTo most p → (w n : ℕ) → n < units p → is_busy w n ≡ false
     → sum_below (units p) (up p w) ≡ split p * all_calls p
 up_all p a w n k f =
     sum-swap (units p) (atoms p) (λ m j. cond (takes p j w m) (calls_of p j * portion p j w) 0)
@@ -237,7 +273,7 @@ up_all p a w n k f =
         )
 
 -- and so there is a free unit that is sent
-pub up_some : (p : PlanParts) → IsAccepted p → (w n : ℕ) → n < units p → is_busy w n ≡ false
+pub up_some : {most : ℕ} (p : PlanParts) → IsAcceptedUpTo most p → (w n : ℕ) → n < units p → is_busy w n ≡ false
     → (m : ℕ) × (m < units p) × (is_busy w m ≡ false) × (0 < up p w m)
 up_some p a w n k f =
     let m = positive_place (units p) (up p w)

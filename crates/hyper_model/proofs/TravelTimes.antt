@@ -5,7 +5,7 @@ use Rattle.hyper_model.specs.declared.parts.PlanParts.{PlanParts}
 use Rattle.hyper_model.specs.Grid.{Grid, cell}
 use Rattle.hyper_model.specs.Sums.{sum_below}
 use Rattle.hyper_model.proofs.Sums.{sum-le, sum-scaled}
-use Rattle.hyper_model.specs.Plans.{atoms, located, travel, IsAccepted}
+use Rattle.hyper_model.specs.Plans.{atoms, located, travel, IsAcceptedUpTo}
 use Rattle.hyper_model.specs.Measures.{mean_travel}
 
 -- a weighed sum of terms that are at most m is at most m times the sum of the weights
@@ -62,6 +62,6 @@ total_most located travel unit atom k total h e g whole longest each =
     )
 
 -- of a plan the mean is taken over its atoms
-pub mean_travel-of_plan : (p : PlanParts) → IsAccepted p → (n j : ℕ)
+pub mean_travel-of_plan : {most : ℕ} (p : PlanParts) → IsAcceptedUpTo most p → (n j : ℕ)
     → mean_travel p n j ≡ sum_below (atoms p) (λ k. located p n k * travel p k j)
 mean_travel-of_plan p a n j = ap (λ k. sum_below k (λ i. located p n i * travel p i j)) a.locations.cols

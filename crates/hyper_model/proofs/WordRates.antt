@@ -4,7 +4,7 @@ use Rattle.std.proofs.lemmas.Bool.{cases_eq, ne_eqb}
 use Rattle.std.proofs.Math.Nat.{mul-le-mul}
 use Rattle.hyper_model.specs.declared.parts.PlanParts.{PlanParts}
 use Rattle.hyper_model.specs.Sums.{sum_below}
-use Rattle.hyper_model.specs.Plans.{units, service_of, all_calls, all_service, split, IsAccepted}
+use Rattle.hyper_model.specs.Plans.{units, service_of, all_calls, all_service, split, IsAccepted, IsAcceptedUpTo}
 use Rattle.hyper_model.specs.Words.{words, is_busy, full_word, turned_word}
 use Rattle.hyper_model.specs.Rates.{up, down, leaving_rate}
 use Rattle.hyper_model.specs.Tables.{RateTable, Descends, between_states, turn_rate, word_table}
@@ -66,18 +66,18 @@ leaving_le p w =
     at_most true k = omega arith
     at_most false k = omega arith
 
--- which is at most 27,720 times two millions
+-- which is at most 27,720 times two millions up to 12 units
 pub leaving_small : (p : PlanParts) → IsAccepted p → (w : ℕ) → leaving_rate p w ≤ 55440000000
 leaving_small p a w =
     omega (
       arith,
       leaving_le p w,
-      mul-le-mul (split_le p) (let both : all_calls p + all_service p ≤ 2000000 =
+      mul-le-mul (split_le p a.units.number.high) (let both : all_calls p + all_service p ≤ 2000000 =
           omega (arith, a.atoms.calls.high, a.units.service) in both),
     )
 
 -- and it is the sum of the rates to the other words
-pub leaving_row : (p : PlanParts) → IsAccepted p → (w : ℕ) → w < words p
+pub leaving_row : {most : ℕ} (p : PlanParts) → IsAcceptedUpTo most p → (w : ℕ) → w < words p
     → sum_below (words p) (word_table p w) ≡ leaving_rate p w
 leaving_row p a w l = row_is p w l ∙ sym (leaving_is p a w l)
 
@@ -89,6 +89,6 @@ descends_between n e d m pos l =
     (to.0, to.1, omega (arith, to.2, ap (λ c. cond c 0 (e m to.0)) (ne_eqb m to.0 apart)))
 
 -- in a word that is not full, all calls go to somebody
-pub up_not_full : (p : PlanParts) → IsAccepted p → (w : ℕ) → w < words p → w ≢ full_word p
+pub up_not_full : {most : ℕ} (p : PlanParts) → IsAcceptedUpTo most p → (w : ℕ) → w < words p → w ≢ full_word p
     → sum_below (units p) (up p w) ≡ split p * all_calls p
 up_not_full p a w l ne = let free = free_exists (units p) w l ne in up_all p a w free.0 free.1 free.2

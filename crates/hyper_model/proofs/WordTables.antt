@@ -1,10 +1,10 @@
 -- The rates between words as one table: its balance is that of the words.
-use Rattle.std.proofs.Common.{◌≡◌, ◌≢◌, ℕ, ◌+◌, ◌*◌, ◌<◌, ◌≤◌, ◌↔◌, true, false, not, cond, eqb, refl, sym, ap, ◌∙◌, inl, inr, eq-eqb, arith}
+use Rattle.std.proofs.Common.{◌≡◌, ◌≢◌, ℕ, ◌+◌, ◌*◌, ◌<◌, ◌≤◌, ◌↔◌, Bool, true, false, not, cond, eqb, refl, sym, ap, ◌∙◌, inl, inr, eq-eqb, arith}
 use Rattle.std.proofs.lemmas.Bool.{cases_eq, ne_eqb}
 use Rattle.std.proofs.Math.Nat.{mul-pos}
 use Rattle.hyper_model.specs.declared.parts.PlanParts.{PlanParts}
 use Rattle.hyper_model.specs.Sums.{sum_below}
-use Rattle.hyper_model.specs.Plans.{units, service_of, all_calls, split, IsAccepted}
+use Rattle.hyper_model.specs.Plans.{units, service_of, all_calls, split, IsAcceptedUpTo}
 use Rattle.hyper_model.specs.Words.{words, is_busy, full_word, turned_word}
 use Rattle.hyper_model.specs.Rates.{up, down, leaving_rate, coming_flow, IsBalancedWord}
 use Rattle.hyper_model.specs.Tables.{IsBalancedState, Descends, turn_rate, word_table}
@@ -65,7 +65,7 @@ pub leaving_other : (p : PlanParts) (w : ℕ) → w ≢ full_word p
 leaving_other p w ne =
     ap (λ c. cond c 0 (split p * all_calls p) + sum_below (units p) (down p w)) (ne_eqb w (full_word p) ne)
 
-pub leaving_is : (p : PlanParts) → IsAccepted p → (w : ℕ) → w < words p
+pub leaving_is : {most : ℕ} (p : PlanParts) → IsAcceptedUpTo most p → (w : ℕ) → w < words p
     → leaving_rate p w ≡ sum_below (units p) (turn_rate p w)
 leaving_is p a w l =
     let parts = sum-same (units p) (turn_rate p w) (λ n. up p w n + down p w n) (λ n k. rate_parts p w n)
@@ -109,8 +109,36 @@ coming_is p x w =
           ap (λ a. x (turned_word w n) * a) (rate_busy p (turned_word w n) n (busy_turned w n ∙ ap not b)),
         ))
 
+-- masses k times as large have flows k times as large
+pub flow_scaled : (p : PlanParts) (k : ℕ) (x y : ℕ → ℕ) → ((v : ℕ) → v < words p → y v ≡ k * x v)
+    → (w : ℕ) → w < words p → coming_flow p y w ≡ k * coming_flow p x w
+flow_scaled p k x y larger w l =
+    let at_turned : (n : ℕ) → n < units p → y (turned_word w n) ≡ k * x (turned_word w n) =
+    λ n unit. larger (turned_word w n) (turned_lt (units p) w n l unit) in
+    omega (
+      arith,
+      sum-same (units p) (λ n. cond (is_busy w n) (y (turned_word w n) * up p (turned_word w n) n) 0)
+          (λ n. k * cond (is_busy w n) (x (turned_word w n) * up p (turned_word w n) n) 0)
+          (λ n unit. taken (is_busy w n) k (x (turned_word w n)) (y (turned_word w n)) (up p (turned_word w n) n)
+          (at_turned n unit)),
+      sum-scaled (units p) k (λ n. cond (is_busy w n) (x (turned_word w n) * up p (turned_word w n) n) 0),
+      sum-same (units p) (λ n. cond (is_busy w n) 0 (y (turned_word w n) * (split p * service_of p n)))
+          (λ n. k * cond (is_busy w n) 0 (x (turned_word w n) * (split p * service_of p n)))
+          (λ n unit. left (is_busy w n) k (x (turned_word w n)) (y (turned_word w n)) (split p * service_of p n)
+          (at_turned n unit)),
+      sum-scaled (units p) k (λ n. cond (is_busy w n) 0 (x (turned_word w n) * (split p * service_of p n))),
+    )
+  where
+    taken : (b : Bool) (k a c r : ℕ) → c ≡ k * a → cond b (c * r) 0 ≡ k * cond b (a * r) 0
+    taken true k a c r is = rw is (omega arith)
+    taken false k a c r is = omega arith
+
+    left : (b : Bool) (k a c r : ℕ) → c ≡ k * a → cond b 0 (c * r) ≡ k * cond b 0 (a * r)
+    left true k a c r is = omega arith
+    left false k a c r is = rw is (omega arith)
+
 -- a word's balance is that of the table
-pub balance_is : (p : PlanParts) → IsAccepted p → (x : ℕ → ℕ) (w : ℕ) → w < words p
+pub balance_is : {most : ℕ} (p : PlanParts) → IsAcceptedUpTo most p → (x : ℕ → ℕ) (w : ℕ) → w < words p
     → IsBalancedWord p x w ↔ IsBalancedState (words p) (word_table p) x w
 balance_is p a x w l =
     let out = ap (λ c. x w * c) (leaving_is p a w l ∙ sym (row_is p w l)) in
@@ -127,13 +155,13 @@ turn_rate_le p v n k =
     )
 
 -- a busy unit ends its service
-pub service_positive : (p : PlanParts) → IsAccepted p → (v n : ℕ) → n < units p → is_busy v n ≡ true
+pub service_positive : {most : ℕ} (p : PlanParts) → IsAcceptedUpTo most p → (v n : ℕ) → n < units p → is_busy v n ≡ true
     → 0 < word_table p v (turned_word v n)
 service_positive p a v n k b =
     omega (arith, turn_rate_le p v n k, rate_busy p v n b, mul-pos (split_positive p) (a.units.rates n k).low)
 
 -- each word but 0 has a rate to the smaller word without one of its busy units
-pub words_descend : (p : PlanParts) → IsAccepted p → Descends (words p) (word_table p)
+pub words_descend : {most : ℕ} (p : PlanParts) → IsAcceptedUpTo most p → Descends (words p) (word_table p)
 words_descend p a m pos l =
     let n = busy_exists (units p) m l pos in
     (turned_word m n.0, turned_down m n.0 n.2, service_positive p a m n.0 n.1 n.2)

@@ -1,8 +1,9 @@
 -- Lists cut into groups, and who takes a call in a word.
-use Rattle.std.proofs.Common.{◌≡◌, [], ◌∷◌, true, false, refl}
+use Rattle.std.proofs.Common.{◌≡◌, ◌*◌, [], ◌∷◌, true, false, refl}
 use Rattle.std.specs.Prelude.{Some, None}
 use Rattle.hyper_model.specs.Groups.{GroupLists, groups_in, list_of}
 use Rattle.hyper_model.specs.Words.{first_free_of, is_taker}
+use Rattle.hyper_model.specs.Plans.{common_multiple}
 use Rattle.hyper_model.proofs.Worked.{row_of_units}
 
 -- of five units: the third by itself, the first with the fourth, and the other two
@@ -61,3 +62,10 @@ pub first_free_units :
     × (first_free_of (list_of three_groups 0) 13 ≡ Some 1)
     × (first_free_of (list_of three_groups 0) 31 ≡ None)
 first_free_units = (refl, refl, refl, refl)
+
+-- what the numbers of units divide: up to twelve, and from thirteen on
+pub common_multiples :
+    (common_multiple 1 ≡ 27720) × (common_multiple 12 ≡ 27720) × (common_multiple 13 ≡ 6227020800)
+    × (6227020800 ≡ 13 * 479001600)
+unfolding Rattle.hyper_model.specs.Plans.factorial
+common_multiples = (refl, refl, refl, refl)

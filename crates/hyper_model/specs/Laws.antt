@@ -1,14 +1,19 @@
--- The laws of the model, for every accepted plan. That a solution exists is `HasSolution`.
+-- The laws of the model. They hold of every accepted plan, whatever its number of units. That a solution exists is
+-- `HasSolution`.
 use Rattle.std.specs.Prelude.{◌≡◌, ◌≢◌, ℕ, ◌+◌, ◌*◌, ◌^◌, ◌<◌, ◌≤◌, ◌==◌, if◌then◌else◌, false, List}
 use Rattle.hyper_model.specs.declared.kinds.Line.TheVariants as line
 use Rattle.hyper_model.specs.declared.kinds.Measure.{Measure}
 use Rattle.hyper_model.specs.declared.parts.PlanParts.{PlanParts}
 use Rattle.hyper_model.specs.Sums.{sum_below}
-use Rattle.hyper_model.specs.Plans.{units, service_of, all_calls, all_service, split}
+use Rattle.hyper_model.specs.Plans.{units, service_of, all_calls, all_service, split, IsAcceptedUpTo}
 use Rattle.hyper_model.specs.Words.{words, is_busy, full_word}
 use Rattle.hyper_model.specs.Rates.{leaving_rate, coming_flow, IsBalancedWord}
 use Rattle.hyper_model.specs.Solutions.{mass_in, IsSolution}
 use Rattle.hyper_model.specs.Measures.{Ratio, measure_of, is_without, IsInRange}
+
+-- a law holds of each plan within the limits, however many units it has
+abbrev pub HoldsForAnyUnits : (PlanParts → Type 0) → Type 0
+HoldsForAnyUnits law = (most : ℕ) (p : PlanParts) → IsAcceptedUpTo most p → law p
 
 -- in every solution each word has a mass
 abbrev pub AreWordsPositive : PlanParts → Type 0

@@ -249,6 +249,10 @@ IsContained p x z e = IsFoundOf p x z e.measure e.found
 abbrev pub AreContained : PlanParts → (ℕ → ℕ) → ℕ → List Enclosed → Type 0
 AreContained p x z items = All (IsContained p x z) items
 
+-- each measure of a list is of the plan's units and atoms
+abbrev pub AreInRange : PlanParts → List Enclosed → Type 0
+AreInRange p items = All (λ e. IsInRange p e.measure) items
+
 -- whatever solution the plan's masses are taken from
 abbrev pub ContainsSolutions : PlanParts → List Enclosed → Type 0
 ContainsSolutions p items = (xs : List ℕ) (z : ℕ) → IsSolution p xs z → AreContained p (mass_in xs) z items

@@ -1,5 +1,5 @@
 -- Words of a plan, and what it is for a plan to be accepted.
-use Rattle.std.specs.Prelude.{◌≡◌, ℕ, ◌<◌, ◌≤◌, ◌==◌, Bool, if◌then◌else◌, List, [], length, slice_index_or}
+use Rattle.std.specs.Prelude.{◌≡◌, ℕ, zero, suc, ◌*◌, ◌<◌, ◌≤◌, ◌==◌, nat_le, Bool, if◌then◌else◌, List, [], length, slice_index_or}
 use Rattle.std.specs.List.{list_all}
 use Rattle.hyper_model.specs.declared.TheConstants.{MOST_UNITS, MOST_ATOMS, MOST_RATE, MOST_COORDINATE, MOST_PERIOD, MOST_TRAVEL, WHOLE_TIME, SHARES}
 use Rattle.hyper_model.specs.Sums.{sum_below}
@@ -90,10 +90,19 @@ are_single groups = list_all (λ group. length group == 1) groups
 abbrev pub all_below : ℕ → (ℕ → Bool) → Bool
 all_below n test = sum_below n (λ k. if test k then 0 else 1) == 0
 
+-- the product of the numbers from 1 to n
+unfoldable pub factorial : ℕ → ℕ
+factorial zero = 1
+factorial (suc n) = factorial n * suc n
+
+-- what each number from 1 to n divides: 27,720 up to 12 units, else the product of all
+abbrev pub common_multiple : ℕ → ℕ
+common_multiple n = if nat_le n MOST_UNITS then SHARES else factorial n
+
 -- The number by which all rates are multiplied, so that the free units of a group share a call equally in
--- whole numbers: 1 if every group has one unit, else 27,720, which each number from 1 to 12 divides.
+-- whole numbers: 1 if every group has one unit, else what each number of units divides.
 abbrev pub split : PlanParts → ℕ
-split p = if all_below (atoms p) (λ j. are_single (groups_of p j)) then 1 else SHARES
+split p = if all_below (atoms p) (λ j. are_single (groups_of p j)) then 1 else common_multiple (units p)
 
 -- an infinite line needs more service than calls
 abbrev pub IsStable : Line → ℕ → ℕ → Type 0
@@ -104,12 +113,16 @@ pub record IsBetween (least most value : ℕ) : Type 0 where
   pub low : least ≤ value
   pub high : value ≤ most
 
--- 1 to 12 units with names of their own, each with a service rate, of 1,000,000 in all at most
-pub record HasUnits (p : PlanParts) : Type 0 where
-  pub number : IsBetween 1 MOST_UNITS (units p)
+-- 1 to so many units with names of their own, each with a service rate, of 1,000,000 in all at most
+pub record HasUnitsUpTo (most : ℕ) (p : PlanParts) : Type 0 where
+  pub number : IsBetween 1 most (units p)
   pub named : (n m : ℕ) → n < units p → m < units p → unit_name p n ≡ unit_name p m → n ≡ m
   pub rates : (n : ℕ) → n < units p → IsBetween 1 MOST_RATE (service_of p n)
   pub service : all_service p ≤ MOST_RATE
+
+-- and that they are 12 at most
+abbrev pub HasUnits : PlanParts → Type 0
+HasUnits p = HasUnitsUpTo MOST_UNITS p
 
 -- an atom's calls, its point, and a district among n units
 pub record IsAtomWithin (n : ℕ) (atom : Atom) : Type 0 where
@@ -143,14 +156,19 @@ pub record HasTravel (p : PlanParts) : Type 0 where
   pub cols : p.travel.cols ≡ atoms p
   pub within : (k j : ℕ) → k < atoms p → j < atoms p → travel p k j ≤ MOST_TRAVEL
 
-pub record IsAccepted (p : PlanParts) : Type 0 where
-  pub units : HasUnits p
+-- a plan of so many units at most. The laws of the model hold of each, however many they are
+pub record IsAcceptedUpTo (most : ℕ) (p : PlanParts) : Type 0 where
+  pub units : HasUnitsUpTo most p
   pub atoms : HasAtoms p
   pub lists : HasLists p
   pub locations : HasLocations p
   pub travel : HasTravel p
   pub period : IsBetween 1 MOST_PERIOD p.period
   pub stable : IsStable p.line (all_calls p) (all_service p)
+
+-- the plans that are solved have 12 units at most
+abbrev pub IsAccepted : PlanParts → Type 0
+IsAccepted p = IsAcceptedUpTo MOST_UNITS p
 
 -- an accepted plan with its sums of rates and its factor
 pub record IsSummed (p : PlanParts) (calls service factor : ℕ) : Type 0 where

@@ -55,7 +55,7 @@ fn stands_each_once(list: &[u8], units: usize) -> bool
 }
 
 /// At how many places of the list the unit stands.
-fn places_of(list: &[u8], unit: usize) -> usize
+pub fn places_of(list: &[u8], unit: usize) -> usize
     ensures { result ≡ places_in list.now unit }
 {
     list.iter()

@@ -2,7 +2,7 @@
 //! Research, chapter 5). Their calls answer nothing: each one's contract is a theorem on the plan.
 ghost use Rattle.hyper_model.specs.Plans.{IsAccepted};
 ghost use Rattle.hyper_model.specs.Solutions.{HasSolution};
-ghost use Rattle.hyper_model.specs.Laws.{AreWordsPositive, IsTailPositive, HavePositiveDenominators, AreWordsProportional, IsTailProportional, HaveOneValue, TailLaw, LevelsLaw};
+ghost use Rattle.hyper_model.specs.Laws.{AreWordsPositive, IsTailPositive, HavePositiveDenominators, AreWordsProportional, IsTailProportional, HaveOneValue, TailLaw, LevelsLaw, HoldsForAnyUnits};
 
 use crate::Plan;
 
@@ -57,3 +57,17 @@ pub fn law_levels(plan: &Plan)
 {
     law_accepted(plan);
 }
+
+/// All these laws hold of plans with any number of units, if the other limits are kept. [`Plan::of`] accepts up to
+/// 12 units, since only so many are solved.
+pub fn law_any_units()
+    ensures existence { HoldsForAnyUnits HasSolution }
+    ensures words_positive { HoldsForAnyUnits AreWordsPositive }
+    ensures waiting_positive { HoldsForAnyUnits IsTailPositive }
+    ensures denominators { HoldsForAnyUnits HavePositiveDenominators }
+    ensures words_proportional { HoldsForAnyUnits AreWordsProportional }
+    ensures waiting_proportional { HoldsForAnyUnits IsTailProportional }
+    ensures one_value { HoldsForAnyUnits HaveOneValue }
+    ensures tail { HoldsForAnyUnits TailLaw }
+    ensures levels { HoldsForAnyUnits LevelsLaw }
+{}

@@ -21,12 +21,15 @@ mod sharing;
 mod travel_time;
 mod values;
 
+pub use acceptance_tables::places_of;
 pub use bounded::Bounded;
 pub use descriptions::{measure_named, scale};
 pub use enclosure_list::Enclosures;
 pub use grid::Table;
 pub use kinds::{Enclosed, Found, Line, Measure, Rule, Subject};
-pub use laws::{law_accepted, law_existence, law_levels, law_positive, law_proportion, law_tail};
+pub use laws::{
+    law_accepted, law_any_units, law_existence, law_levels, law_positive, law_proportion, law_tail,
+};
 pub use name::{MOST_NAME_BYTES, Name, NameEnd};
 pub use own_names::HasName;
 pub use parts::{Atom, Atoms, Names, PlanParts, Unit, Units};

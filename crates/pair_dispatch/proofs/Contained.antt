@@ -5,7 +5,6 @@ use Rattle.std.proofs.lemmas.List.Elements.{All-nil, All-cons, All-append}
 use Rattle.std.proofs.Math.Nat.{mul-pos, mul-le-mul_left}
 use Rattle.std.proofs.lemmas.Nat.Bits.{bit_at-zero}
 use Rattle.std.proofs.lemmas.Bool.Decides.{nat_tests}
-use Rattle.std.proofs.lemmas.List.FromFn.{length-map-range_with_len, get_or-map-range_with_len}
 use Rattle.fixed_interval.specs.Ends.{Ends, Encloses, exact_ends, outward_ends, quotient_ends, scaled_ends, share_ends}
 use Rattle.fixed_interval.specs.WeightList.{EnclosesAll, ends_at}
 use Rattle.fixed_interval.proofs.Rounding.{encloses_exact, encloses_outward, encloses_quotient, encloses_same, encloses_scaled, encloses_share}
@@ -18,7 +17,7 @@ use Rattle.hyper_model.specs.Laws.{level}
 use Rattle.hyper_model.specs.Solutions.{mass_in}
 use Rattle.hyper_model.specs.Measures.{ContainsRatio}
 use Rattle.hyper_model.proofs.Sums.{choices_scaled, place_le_sum, sum-add, sum-at, sum-le, sum-same, sum-scaled, sum_none}
-use Rattle.hyper_model.proofs.Ranges.{all_flat, all_range}
+use Rattle.hyper_model.proofs.Ranges.{all_flat, all_from, all_range}
 use Rattle.hyper_model.proofs.Bits.{words_full}
 use Rattle.hyper_model.proofs.Relabel.{sum_relabelled}
 use Rattle.busy_words.specs.Algebra.{where_ends}
@@ -27,7 +26,7 @@ use Rattle.busy_words.specs.Parts.{set_ends}
 use Rattle.busy_words.specs.WeightParts.{IsOrderOf}
 use Rattle.busy_words.proofs.Algebra.{encloses_total, encloses_where}
 use Rattle.busy_words.proofs.MeasureEnds.{contains_ratio}
-use Rattle.busy_words.proofs.Ordering.{same_order}
+use Rattle.busy_words.proofs.Ordering.{one_order}
 use Rattle.busy_words.proofs.SetParts.{scaled_in_all}
 use Rattle.rate_matrix.specs.WordChains.{by_rank}
 use Rattle.rate_matrix.proofs.WordChains.{by_rank_at, inverse, ranks_solve}
@@ -42,13 +41,6 @@ use Rattle.pair_dispatch.specs.PairMeasures.{ContainsSolutions, IsContained, IsO
 use Rattle.pair_dispatch.specs.PairRates.{IsPairSolution, pair_rates, pair_table, pair_top}
 use Rattle.pair_dispatch.proofs.ChainWeights.{chain_encloses, chain_in_range, one_chain}
 use Rattle.pair_dispatch.proofs.PairChains.{none_busy_positive, pair_ranks_descend}
-
--- what holds of the item for each number from `first` on holds of all
-all_from : {X : Type 0} (P : X → Type 0) (f : ℕ → X) (first n : ℕ)
-    → ((i : ℕ) → first ≤ i → i < first + n → P (f i)) → All P (map f (range_with_len first n))
-all_from P f first n h = λ k d l.
-    let inside : k < n = omega (arith, l, length-map-range_with_len f first n) in
-    subst P (sym (get_or-map-range_with_len f first n k (first + k) d inside refl)) (h (first + k) (omega arith) (omega arith))
 
 -- The part of some places among others encloses the share of their numbers, if the weights enclose all numbers. The two
 -- sets together are the places among which it is taken.
@@ -325,18 +317,7 @@ enclosure_contains p percent a in_range found is xs s =
     subst (All (IsContained p (mass_in xs))) (sym is.exact)
     (all_contained p percent a in_range is.order is.weights.ordered is.items is.weights.weights xs s)
 
--- a plan has one order of its words, one list of weights, and one list of measures
-one_order : (p : PlanParts) (order other : WordOrder) → IsOrderOf p order → IsOrderOf p other → other ≡ order
-one_order p order other o t =
-    let same : other.words ≡ order.words = same_order (units p) other.words order.words t.ordered o.ordered in
-    same_parts order.units other.units order.words other.words (t.same_units ∙ sym o.same_units) same
-  where
-    same_parts : (n m : ℕ) (ws vs : List ℕ) → m ≡ n → vs ≡ ws
-        → (let before : WordOrder = record { units = m; words = vs } in
-        let after : WordOrder = record { units = n; words = ws } in
-        before ≡ after)
-    same_parts n m ws vs e f = cc
-
+-- a plan has one list of weights, and one list of measures
 pub one_enclosure : (p : PlanParts) (percent : ℕ) (found others : List PairEnds) → IsPairEnclosureOf p percent found
     → IsPairEnclosureOf p percent others → others ≡ found
 one_enclosure p percent found others is again =

@@ -18,8 +18,7 @@ use Rattle.hyper_model.specs.Solutions.{IsSolution, mass_in}
 use Rattle.hyper_model.specs.Words.{words}
 use Rattle.hyper_model.proofs.Ranges.{table_length}
 use Rattle.busy_words.specs.Order.{WordOrder}
-use Rattle.busy_words.specs.WeightParts.{IsOrderOf}
-use Rattle.busy_words.proofs.Ordering.{same_order}
+use Rattle.busy_words.proofs.Ordering.{one_order}
 use Rattle.back_solve.proofs.WeightLists.{are_determined, pushed-one}
 use Rattle.queue_tail.specs.Tail.{GainsTail, tail_weight}
 use Rattle.workload_measures.specs.LoadEnds.{loads_of, workload_of, workloads_of}
@@ -114,18 +113,7 @@ pub enclosure_in_range : (p : PlanParts) (found : List Enclosed) → IsEnclosure
     → All (λ e. IsInRange p e.measure) found
 enclosure_in_range p found is = subst (All (λ e. IsInRange p e.measure)) (sym is.exact) (measures_in_range p is.order is.items)
 
--- a plan has one order of its words, one list of weights, and one list of measures
-one_order : (p : PlanParts) (order other : WordOrder) → IsOrderOf p order → IsOrderOf p other → other ≡ order
-one_order p order other o t =
-    let same : other.words ≡ order.words = same_order (units p) other.words order.words t.ordered o.ordered in
-    same_parts order.units other.units order.words other.words (t.same_units ∙ sym o.same_units) same
-  where
-    same_parts : (n m : ℕ) (ws vs : List ℕ) → m ≡ n → vs ≡ ws
-        → (let before : WordOrder = record { units = m; words = vs } in
-        let after : WordOrder = record { units = n; words = ws } in
-        before ≡ after)
-    same_parts n m ws vs e f = cc
-
+-- a plan has one list of weights, and one list of measures
 one_weights : (l : Line) (p : PlanParts) (order : WordOrder) (items others : List Ends) → AreWeightsOn l p order items
     → AreWeightsOn l p order others → others ≡ items
 one_weights line.Zero p order items others are again = are_determined (words p) (last_entries p order) others items again are

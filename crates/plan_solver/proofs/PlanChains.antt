@@ -48,7 +48,7 @@ module _ (p : PlanParts) (a : IsAccepted p) (order : WordOrder) (o : IsOrderOf p
   top_most =
       omega (
         arith,
-        mul-le (split p) (all_calls p + all_service p) 27720 2000000 (split_le p)
+        mul-le (split p) (all_calls p + all_service p) 27720 2000000 (split_le p a.units.number.high)
             (omega (arith, a.atoms.calls.high, a.units.service)),
       )
 

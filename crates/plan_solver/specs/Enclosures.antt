@@ -29,6 +29,10 @@ pub record IsEnclosureOf (p : PlanParts) (found : List Enclosed) : Type 0 where
   pub weights : ArePlanWeights p order items
   pub exact : found ≡ measures_of p order items
 
+-- and no other list has them
+abbrev pub IsOnlyEnclosure : PlanParts → List Enclosed → Type 0
+IsOnlyEnclosure p found = (others : List Enclosed) → IsEnclosureOf p others → others ≡ found
+
 -- for each plan, in order, the one list of its measures with the ends of the method
 abbrev pub AreEnclosuresOf : List PlanParts → List EnclosureList → Type 0
 AreEnclosuresOf plans found = AllZip (λ p list. IsEnclosureOf p list.items) plans found

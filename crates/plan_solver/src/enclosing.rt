@@ -1,8 +1,7 @@
-ghost use Rattle.std.specs.Prelude.{◌≡◌, ◌≤◌, All, IfOk, List};
-ghost use Rattle.hyper_model.specs.declared.kinds.Enclosed.{Enclosed};
-ghost use Rattle.hyper_model.specs.Measures.{ContainsSolutions, IsInRange};
+ghost use Rattle.std.specs.Prelude.{◌≤◌, IfOk};
+ghost use Rattle.hyper_model.specs.Measures.{AreInRange, ContainsSolutions};
 ghost use Rattle.hyper_model.specs.Solutions.{HasSolution};
-ghost use Rattle.plan_solver.specs.Enclosures.{IsEnclosureOf};
+ghost use Rattle.plan_solver.specs.Enclosures.{IsEnclosureOf, IsOnlyEnclosure};
 ghost use Rattle.plan_solver.specs.PlanWeights.{ArePlanWeights};
 
 use crate::measuring::measures;
@@ -21,9 +20,9 @@ use std::thread::Threads;
 pub fn enclose(alloc: Global, plan: &Plan) -> Result<Enclosures, AllocError>
     ensures solvable { HasSolution plan.now }
     ensures exact { IfOk result (λ found. IsEnclosureOf plan.now found.items) }
-    ensures alone { IfOk result (λ found. (others : List Enclosed) → IsEnclosureOf plan.now others → others ≡ found.items) }
+    ensures alone { IfOk result (λ found. IsOnlyEnclosure plan.now found.items) }
     ensures contains { IfOk result (λ found. ContainsSolutions plan.now found.items) }
-    ensures in_range { IfOk result (λ found. All (λ e. IsInRange plan.now e.measure) found.items) }
+    ensures in_range { IfOk result (λ found. AreInRange plan.now found.items) }
 {
     law_existence(plan);
     let weighed = Solver::reserved(alloc, plan)?.weigh();
@@ -32,8 +31,8 @@ pub fn enclose(alloc: Global, plan: &Plan) -> Result<Enclosures, AllocError>
 
 /// Does what [`enclose`] does, the rows of each elimination by 1 to 16 workers.
 ///
-/// Each entry that an elimination changes is computed by the gate, which is given the place of the plan among others.
-/// Neither the number of workers nor the gate has a part in what is found.
+/// Each entry that an elimination changes is computed by the gate, which is given the place of the plan among others,
+/// and hears of it once all measures are found. Neither the number of workers nor the gate has a part in what is found.
 pub fn enclose_with<R: Threads + Sync, G: Gate + Sync>(
     rt: &R,
     alloc: Global,
@@ -46,22 +45,24 @@ pub fn enclose_with<R: Threads + Sync, G: Gate + Sync>(
     requires most { workers ≤ 16 }
     ensures solvable { HasSolution plan.now }
     ensures exact { IfOk result (λ found. IsEnclosureOf plan.now found.items) }
-    ensures alone { IfOk result (λ found. (others : List Enclosed) → IsEnclosureOf plan.now others → others ≡ found.items) }
+    ensures alone { IfOk result (λ found. IsOnlyEnclosure plan.now found.items) }
     ensures contains { IfOk result (λ found. ContainsSolutions plan.now found.items) }
-    ensures in_range { IfOk result (λ found. All (λ e. IsInRange plan.now e.measure) found.items) }
+    ensures in_range { IfOk result (λ found. AreInRange plan.now found.items) }
 {
     law_existence(plan);
     let weighed = Solver::reserved(alloc, plan)?.weigh_with(rt, workers, gate, place);
-    enclosures(alloc, plan, &weighed)
+    let found = enclosures(alloc, plan, &weighed)?;
+    gate.solved(place);
+    Ok(found)
 }
 
 /// The measures with the ends that a plan's weights give.
 fn enclosures(alloc: Global, plan: &Plan, weighed: &Weighed) -> Result<Enclosures, AllocError>
     requires { ArePlanWeights plan.now weighed.now.order weighed.now.weights.items }
     ensures exact { IfOk result (λ found. IsEnclosureOf plan.now found.items) }
-    ensures alone { IfOk result (λ found. (others : List Enclosed) → IsEnclosureOf plan.now others → others ≡ found.items) }
+    ensures alone { IfOk result (λ found. IsOnlyEnclosure plan.now found.items) }
     ensures contains { IfOk result (λ found. ContainsSolutions plan.now found.items) }
-    ensures in_range { IfOk result (λ found. All (λ e. IsInRange plan.now e.measure) found.items) }
+    ensures in_range { IfOk result (λ found. AreInRange plan.now found.items) }
 {
     law_accepted(plan);
     measures(alloc, plan, weighed)

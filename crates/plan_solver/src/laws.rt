@@ -1,15 +1,15 @@
 //! What follows from the weights of a plan, and from the ends of its measures. The calls answer nothing: each one's
 //! contract is a theorem.
-ghost use Rattle.std.specs.Prelude.{◌≡◌, ℕ, All, List};
+ghost use Rattle.std.specs.Prelude.{ℕ, List};
 ghost use Rattle.fixed_interval.specs.Ends.{Ends};
 ghost use Rattle.hyper_model.specs.declared.kinds.Enclosed.{Enclosed};
 ghost use Rattle.hyper_model.specs.declared.parts.PlanParts.{PlanParts};
-ghost use Rattle.hyper_model.specs.Measures.{ContainsSolutions, IsInRange};
+ghost use Rattle.hyper_model.specs.Measures.{AreInRange, ContainsSolutions};
 ghost use Rattle.hyper_model.specs.Plans.{IsAccepted};
 ghost use Rattle.hyper_model.specs.Solutions.{IsSolution};
 ghost use Rattle.busy_words.specs.Order.{WordOrder};
 ghost use Rattle.busy_words.specs.WeightParts.{EnclosesSolution};
-ghost use Rattle.plan_solver.specs.Enclosures.{IsEnclosureOf};
+ghost use Rattle.plan_solver.specs.Enclosures.{IsEnclosureOf, IsOnlyEnclosure};
 ghost use Rattle.plan_solver.specs.PlanWeights.{ArePlanWeights};
 
 /// The weights of a plan enclose every solution of it, up to one common factor.
@@ -21,10 +21,8 @@ pub fn law_weights()
 /// The measures of a plan with the ends of the method are one list. They are of the plan's units and atoms, and each
 /// contains its value for every solution.
 pub fn law_enclosure()
-    ensures alone { (p : PlanParts) (found others : List Enclosed) → IsEnclosureOf p found → IsEnclosureOf p others
-        → others ≡ found }
+    ensures alone { (p : PlanParts) (found : List Enclosed) → IsEnclosureOf p found → IsOnlyEnclosure p found }
     ensures contains { (p : PlanParts) → IsAccepted p → (found : List Enclosed) → IsEnclosureOf p found
         → ContainsSolutions p found }
-    ensures in_range { (p : PlanParts) (found : List Enclosed) → IsEnclosureOf p found
-        → All (λ e. IsInRange p e.measure) found }
+    ensures in_range { (p : PlanParts) (found : List Enclosed) → IsEnclosureOf p found → AreInRange p found }
 {}

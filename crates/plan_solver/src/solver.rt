@@ -39,12 +39,8 @@ pub struct Weighed {
 }
 
 impl Solver {
-    ghost use Rattle.std.specs.Prelude.{◌≤◌, ℕ, IfOk, List};
-    ghost use Rattle.hyper_model.specs.declared.parts.PlanParts.{PlanParts};
-    ghost use Rattle.hyper_model.specs.Solutions.{IsSolution};
-    ghost use Rattle.busy_words.specs.WeightParts.{EnclosesSolution};
-    ghost use Rattle.plan_solver.specs.PlanWeights.{ArePlanWeights};
-    ghost use Rattle.plan_solver.specs.Solvers.{IsSolverOf};
+    ghost use Rattle.std.specs.Prelude.{◌≤◌, IfOk};
+    ghost use Rattle.plan_solver.specs.Solvers.{AreSolverWeights, EncloseSolutions, IsSolverOf};
 
     /// The solver of this plan. All memory is taken here.
     pub fn reserved(alloc: Global, plan: &Plan) -> Result<Solver, AllocError>
@@ -70,9 +66,8 @@ impl Solver {
     ///
     /// The weights enclose every solution of the plan, up to one common factor. No memory is taken.
     pub fn weigh(self) -> Weighed
-        ensures weights { (p : PlanParts) → IsSolverOf p self → ArePlanWeights p result.order result.weights.items }
-        ensures encloses { (p : PlanParts) → IsSolverOf p self → (xs : List ℕ) (z : ℕ) → IsSolution p xs z
-            → EnclosesSolution p result.order result.weights.items xs z }
+        ensures weights { AreSolverWeights self result.order result.weights.items }
+        ensures encloses { EncloseSolutions self result.order result.weights.items }
     {
         let Solver {
             mut matrix,
@@ -96,9 +91,8 @@ impl Solver {
     ) -> Weighed
         requires some { 1 ≤ workers }
         requires most { workers ≤ 16 }
-        ensures weights { (p : PlanParts) → IsSolverOf p self → ArePlanWeights p result.order result.weights.items }
-        ensures encloses { (p : PlanParts) → IsSolverOf p self → (xs : List ℕ) (z : ℕ) → IsSolution p xs z
-            → EnclosesSolution p result.order result.weights.items xs z }
+        ensures weights { AreSolverWeights self result.order result.weights.items }
+        ensures encloses { EncloseSolutions self result.order result.weights.items }
     {
         let Solver {
             mut matrix,

@@ -13,7 +13,7 @@ use Rattle.plan_text.specs.declared.record.Record.{Record}
 use Rattle.plan_text.specs.declared.record.Record.TheVariants as rec
 use Rattle.atom_table.specs.Names.{place_or_zero}
 use Rattle.atom_table.proofs.OwnNames.{place_or_zero-within}
-use Rattle.preference_rules.specs.Drafts.{Draft, again_refusal, draft_at, draft_of, drafts_of, no_draft, with_group, with_next, with_order, with_record}
+use Rattle.preference_rules.specs.Drafts.{Draft, again_refusal, begins_in, draft_at, draft_of, drafts_of, no_draft, with_group, with_next, with_order, with_record, with_units}
 use Rattle.preference_rules.specs.Given.{twice_refusal}
 use Rattle.preference_rules.specs.Lists.{begins_of, given_groups, groups_for, is_list_for, is_order_for, places_of, row_of_groups}
 use Rattle.preference_rules.specs.declared.refusal.ListRefusal.{ListRefusal}
@@ -205,38 +205,33 @@ places_of-more units names place name read =
     let is : get_or names place [] ≡ name = get_or_from_slice_get names place name [] read in
     rw (take_more names place [] (slice_get_within names place name read), is) (map-append (place_or_zero units) (take place names) (name ∷ []))
 
-pub with_order-more : (draft : Draft) (places : List ℕ) (unit : ℕ)
-    → with_next (with_order draft places) unit true ≡ with_order draft (places ++ unit ∷ [])
-with_order-more draft places unit =
+-- the beginnings of groups among the units, with one unit more
+begins_in-more : (are_single : Bool) (places : List ℕ) (unit : ℕ)
+    → begins_in places are_single ++ (are_single || (length places == 0)) ∷ [] ≡ begins_in (places ++ unit ∷ []) are_single
+begins_in-more true places unit =
     let long : length (places ++ unit ∷ []) ≡ length places + 1 = length-append places (unit ∷ []) in
-    rw (long, append_assoc {A = ℕ}, append_assoc {A = Bool}, replicate_more (length places) true) refl
+    rw (long, replicate_more (length places) true) refl
+begins_in-more false places unit = sym (begins_of-push places unit)
 
-pub with_group-more : (draft : Draft) (places : List ℕ) (unit : ℕ)
-    → with_next (with_group draft places) unit (length places == 0) ≡ with_group draft (places ++ unit ∷ [])
-with_group-more draft places unit =
-    rw (begins_of-push places unit, append_assoc {A = ℕ}, append_assoc {A = Bool}) refl
+with_units-more : (draft : Draft) (are_single : Bool) (places : List ℕ) (unit : ℕ)
+    → with_next (with_units draft places are_single) unit (are_single || (length places == 0))
+    ≡ with_units draft (places ++ unit ∷ []) are_single
+with_units-more draft are_single places unit =
+    rw (sym (begins_in-more are_single places unit), append_assoc {A = ℕ}, append_assoc {A = Bool}) refl
 
-pub order-taken : (draft : Draft) (units names : List (List ℕ)) (place : ℕ) (name : List ℕ) (unit : ℕ) → slice_get names place ≡ Some name
-    → unit ≡ place_or_zero units name
-    → with_next (with_order draft (places_of units (take place names))) unit true
-    ≡ with_order draft (places_of units (take (place + 1) names))
-order-taken draft units names place name unit read is =
-    ap (λ n. with_next (with_order draft (places_of units (take place names))) n true) is
-    ∙ with_order-more draft (places_of units (take place names)) (place_or_zero units name)
-    ∙ ap (with_order draft) (sym (places_of-more units names place name read))
-
-pub group-taken : (draft : Draft) (units names : List (List ℕ)) (place : ℕ) (name : List ℕ) (unit : ℕ) → slice_get names place ≡ Some name
-    → unit ≡ place_or_zero units name
-    → with_next (with_group draft (places_of units (take place names))) unit (place == 0)
-    ≡ with_group draft (places_of units (take (place + 1) names))
-group-taken draft units names place name unit read is =
+pub units-taken : (draft : Draft) (are_single : Bool) (units names : List (List ℕ)) (place : ℕ) (name : List ℕ) (unit : ℕ)
+    → slice_get names place ≡ Some name → unit ≡ place_or_zero units name
+    → with_next (with_units draft (places_of units (take place names)) are_single) unit (are_single || (place == 0))
+    ≡ with_units draft (places_of units (take (place + 1) names)) are_single
+units-taken draft are_single units names place name unit read is =
+    let before : Draft = with_units draft (places_of units (take place names)) are_single in
     let lt : place < length names = slice_get_within names place name read in
     let long : length (places_of units (take place names)) ≡ place =
     length-map (take place names) (place_or_zero units) ∙ length-take-le place names (omega arith) in
-    ap (λ n. with_next (with_group draft (places_of units (take place names))) n (place == 0)) is
-    ∙ ap (λ n. with_next (with_group draft (places_of units (take place names))) (place_or_zero units name) (n == 0)) (sym long)
-    ∙ with_group-more draft (places_of units (take place names)) (place_or_zero units name)
-    ∙ ap (with_group draft) (sym (places_of-more units names place name read))
+    ap (λ n. with_next before n (are_single || (place == 0))) is
+    ∙ ap (λ n. with_next before (place_or_zero units name) (are_single || (n == 0))) (sym long)
+    ∙ with_units-more draft are_single (places_of units (take place names)) (place_or_zero units name)
+    ∙ ap (λ places. with_units draft places are_single) (sym (places_of-more units names place name read))
 
 -- before all records
 pub drafts_of-none : (units atoms : List (List ℕ)) (n : ℕ) → n ≡ length atoms → replicate n no_draft ≡ drafts_of units atoms []

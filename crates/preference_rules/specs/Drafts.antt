@@ -42,26 +42,25 @@ with_next draft unit begins = record draft {
   row = record { members = draft.row.members ++ unit ∷ []; begins = draft.row.begins ++ begins ∷ [] };
 }
 
--- a draft with a whole order, or one more group
-abbrev pub with_order : Draft → List ℕ → Draft
-with_order draft units = record {
+-- at which of more units a group begins: at each, if they are single, or at the first
+abbrev pub begins_in : List ℕ → Bool → List Bool
+begins_in units are_single = if are_single then replicate (length units) true else begins_of units
+
+-- a draft with more units
+abbrev pub with_units : Draft → List ℕ → Bool → Draft
+with_units draft units are_single = record draft {
   row = record {
     members = draft.row.members ++ units;
-    begins = draft.row.begins ++ replicate (length units) true;
+    begins = draft.row.begins ++ begins_in units are_single;
   };
-  is_listed = true;
-  is_ordered = true;
 }
 
+-- a draft with a whole order, or one more group
+abbrev pub with_order : Draft → List ℕ → Draft
+with_order draft units = record (with_units draft units true) { is_listed = true; is_ordered = true }
+
 abbrev pub with_group : Draft → List ℕ → Draft
-with_group draft units = record {
-  row = record {
-    members = draft.row.members ++ units;
-    begins = draft.row.begins ++ begins_of units;
-  };
-  is_listed = true;
-  is_ordered = draft.is_ordered;
-}
+with_group draft units = record (with_units draft units false) { is_listed = true }
 
 -- the drafts with what one more record gives
 abbrev pub with_record : List (List ℕ) → List (List ℕ) → List Draft → Record → List Draft

@@ -1,8 +1,7 @@
-ghost use Rattle.std.specs.Prelude.{◌≡◌, ◌<◌, if◌then◌else◌, Some, None, OnOk};
+ghost use Rattle.std.specs.Prelude.{◌≡◌, ◌<◌, ◌==◌, ◌||◌, if◌then◌else◌, Some, None, OnOk};
 ghost use Rattle.plan_text.specs.Steps.{Checks, Refuses};
 ghost use Rattle.atom_table.specs.Entries.{unit_names};
-ghost use Rattle.hyper_model.specs.Acceptance as acceptance;
-ghost use Rattle.preference_rules.specs.Drafts.{draft_refusal, no_draft, with_group, with_next, with_order};
+ghost use Rattle.preference_rules.specs.Drafts.{draft_refusal, no_draft, with_group, with_next, with_order, with_units};
 ghost use Rattle.preference_rules.specs.Lists.{places_of};
 ghost use Rattle.preference_rules.specs.Given as given;
 
@@ -61,10 +60,7 @@ impl Draft {
         }
         self.is_listed = true;
         self.is_ordered = true;
-        for place in 0..units.len() {
-            let unit = names.unit_of(units.get(place)).unwrap_or(0);
-            self.push(unit, true)?;
-        }
+        self.push_units(names, units, true)?;
         Ok(())
     }
 
@@ -82,9 +78,22 @@ impl Draft {
             return Err(ListRefusal::ListTwice(u64::from(at)));
         }
         self.is_listed = true;
+        self.push_units(names, units, false)?;
+        Ok(())
+    }
+
+    /// Puts these units after the others: as one group, or each single, as a group of its own.
+    fn push_units(
+        &mut self,
+        names: &AtomTable,
+        units: &Names,
+        are_single: bool,
+    ) -> Result<(), AllocError>
+        ensures { OnOk result (self.new ≡ with_units self.old (places_of (unit_names names.now.units) units.now) are_single) }
+    {
         for place in 0..units.len() {
             let unit = names.unit_of(units.get(place)).unwrap_or(0);
-            self.push(unit, place == 0)?;
+            self.push(unit, begins_at(are_single, place))?;
         }
         Ok(())
     }
@@ -127,23 +136,21 @@ impl Draft {
     }
 }
 
+/// Whether a group begins at this place of a record: at each, if its units are single, or only at the first.
+fn begins_at(are_single: bool, place: usize) -> bool
+    ensures { result ≡ (are_single || (place == 0)) }
+{
+    are_single || place == 0
+}
+
 /// Whether each of the first units stands once in the list.
 fn holds_each(list: &Vec<u8>, units: usize) -> bool
     ensures { result ≡ given.holds_each units list.now.items }
 {
     for unit in 0..units {
-        if places_in(list, unit) != 1 {
+        if hyper_model::places_of(list, unit) != 1 {
             return false;
         }
     }
     true
-}
-
-/// At how many places of the list the unit stands.
-fn places_in(list: &[u8], unit: usize) -> usize
-    ensures { result ≡ acceptance.places_in list.now unit }
-{
-    list.iter()
-        .filter(|member| usize::from(**member) == unit)
-        .count()
 }

@@ -13,6 +13,9 @@ pub trait Gate {
     fn cell(&self, place: usize, row: usize, old: Iv, into: Iv, part: Iv, cap: u64) -> Iv
         requires { cap ≤ 2 ^ 62 }
         ensures { result ≡ raised_entry old into part cap };
+
+    /// Is called once all measures of the plan at this place are found. Nothing that is found depends on it.
+    fn solved(&self, _place: usize) {}
 }
 
 /// The gate that computes the entry and does nothing else.

@@ -73,7 +73,7 @@ module _ (p : PlanParts) (xs : List ℕ) (z : ℕ) (parts : PartList) (h : HasPa
       (scaled_number (2 ^ 62) (calls_of p j) (taken_mass p (mass_in xs) n j) (mean_travel p n j))
       (part_holds n j (calls_of p j * mean_travel p n j) l i))))
 
-  all_trips_hold : (district : Option ℕ)
+  pub all_trips_hold : (district : Option ℕ)
       → Encloses (all_trip_ends p parts district)
       (2 ^ 62 * sum_below (units p) (trip_mass p (mass_in xs) district)) shares
   all_trips_hold district =
@@ -94,7 +94,7 @@ module _ (p : PlanParts) (xs : List ℕ) (z : ℕ) (parts : PartList) (h : HasPa
       h.waiting (late_holds district)
       (rw same (district_fits p h.accepted (mass_in xs) z district))
 
-  region_contained : IsContained p (mass_in xs) z (region_time_of p parts)
+  pub region_contained : IsContained p (mass_in xs) z (region_time_of p parts)
   region_contained = (
     refl,
     contains_time (mean_ends p parts None (all_calls p))
@@ -114,7 +114,7 @@ module _ (p : PlanParts) (xs : List ℕ) (z : ℕ) (parts : PartList) (h : HasPa
       (λ n l. subst (λ k. Encloses (scaled_ends (mean_travel p n j) (taken_by parts n j)) k shares)
       (scaled_turned (2 ^ 62) (taken_mass p (mass_in xs) n j) (mean_travel p n j)) (part_holds n j (mean_travel p n j) l i)))
 
-  atom_contained : (j : ℕ) → j < atoms p → IsContained p (mass_in xs) z (atom_time p parts j)
+  pub atom_contained : (j : ℕ) → j < atoms p → IsContained p (mass_in xs) z (atom_time p parts j)
   atom_contained j i = (
     refl,
     contains_time (atom_ends p parts j) (travel_to p (mass_in xs) z j)
@@ -135,7 +135,7 @@ module _ (p : PlanParts) (xs : List ℕ) (z : ℕ) (parts : PartList) (h : HasPa
       (λ j i. subst (λ k. Encloses (scaled_ends (calls_of p j) (taken_by parts n j)) k shares)
       (scaled_by_one (2 ^ 62) (calls_of p j) (taken_mass p (mass_in xs) n j)) (part_holds n j (calls_of p j) l i)))
 
-  unit_contained : (n : ℕ) → n < units p → IsContained p (mass_in xs) z (unit_time p parts n)
+  pub unit_contained : (n : ℕ) → n < units p → IsContained p (mass_in xs) z (unit_time p parts n)
   unit_contained n l = (
     refl,
     contains_time (unit_ends p parts n)
@@ -153,7 +153,7 @@ module _ (p : PlanParts) (xs : List ℕ) (z : ℕ) (parts : PartList) (h : HasPa
         (unit_fits p h.accepted (mass_in xs) z n l)),
   )
 
-  district_contained : (n : ℕ) → n < units p → IsContained p (mass_in xs) z (district_time p parts n)
+  pub district_contained : (n : ℕ) → n < units p → IsContained p (mass_in xs) z (district_time p parts n)
   district_contained n l =
       found_where p (mass_in xs) z (measure.TravelDistrict n) (eqb (district_calls p n) 0)
       (mean_ends p parts (Some n) (district_calls p n)) refl

@@ -27,7 +27,8 @@ pub fn atom_times(alloc: Global, plan: &Plan, parts: &Parts) -> Result<Vec<Enclo
     Ok(found)
 }
 
-fn atom_time(plan: &Plan, parts: &Parts, calls: u32, atom: u16) -> Enclosed
+/// That of one atom, if `calls` is the rate of all calls.
+pub fn atom_time(plan: &Plan, parts: &Parts, calls: u32, atom: u16) -> Enclosed
     requires accepted { IsAccepted plan.now }
     requires sized { AreSizedFor plan.now parts.now }
     requires calls { calls ≡ all_calls plan.now }

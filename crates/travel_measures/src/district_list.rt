@@ -30,7 +30,8 @@ pub fn district_times(
     Ok(found)
 }
 
-fn district_time(plan: &Plan, parts: &Parts, all: u32, unit: u8) -> Enclosed
+/// That of one unit's district, if `all` is the rate of all calls.
+pub fn district_time(plan: &Plan, parts: &Parts, all: u32, unit: u8) -> Enclosed
     requires accepted { IsAccepted plan.now }
     requires sized { AreSizedFor plan.now parts.now }
     requires all { all ≡ all_calls plan.now }

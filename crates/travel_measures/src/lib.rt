@@ -13,8 +13,9 @@ mod table_sums;
 mod trips;
 mod unit_list;
 
-pub use atom_list::atom_times;
-pub use district_list::district_times;
+pub use atom_list::{atom_time, atom_times};
+pub use district_list::{district_time, district_times};
 pub use laws::law_travel_times;
 pub use means::region_time;
-pub use unit_list::unit_times;
+pub use trips::all_trips;
+pub use unit_list::{unit_time, unit_times};

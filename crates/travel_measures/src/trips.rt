@@ -12,9 +12,9 @@ use dispatch_fractions::Parts;
 use fixed_interval::{Iv, Wide};
 use hyper_model::Plan;
 
-/// The flow of the calls that all units take at once in a district, or in the region, each times the unit's mean
-/// travel time to it.
-pub(crate) fn all_trips(plan: &Plan, parts: &Parts, district: Option<usize>) -> Wide
+/// The flow of the calls that all units take at once in a district, or in the region if none is given, each times the
+/// unit's mean travel time to it in thousandths of a second: a rate of calls times a part of `2^62` times a time.
+pub fn all_trips(plan: &Plan, parts: &Parts, district: Option<usize>) -> Wide
     requires accepted { IsAccepted plan.now }
     requires sized { AreSizedFor plan.now parts.now }
     ensures ends { result ≡ all_trip_ends plan.now parts.now district }

@@ -26,7 +26,8 @@ pub fn unit_times(alloc: Global, plan: &Plan, parts: &Parts) -> Result<Vec<Enclo
     Ok(found)
 }
 
-fn unit_time(plan: &Plan, parts: &Parts, calls: u32, unit: u8) -> Enclosed
+/// That of one unit, if `calls` is the rate of all calls.
+pub fn unit_time(plan: &Plan, parts: &Parts, calls: u32, unit: u8) -> Enclosed
     requires accepted { IsAccepted plan.now }
     requires sized { AreSizedFor plan.now parts.now }
     requires calls { calls ≡ all_calls plan.now }
