@@ -1,95 +1,104 @@
 -- The command that the arguments of the program give.
-use Rattle.std.specs.Prelude.{◌≡◌, ℕ, ◌≤◌, Bool, ◌&&◌, if◌then◌else◌, List, [], ◌∷◌, length, nat_le, Option, Some, None, Result, Ok, Err, codes}
+use Rattle.std.specs.Prelude.{◌≡◌, ℕ, ◌≤◌, Bool, true, if◌then◌else◌, List, [], ◌∷◌, Option, Some, None, Result, Ok, Err, codes, find}
 use Rattle.std.specs.Str.{bytes_eq}
+use Rattle.hyper_model.specs.Measures.{is_of_region, word_of}
+use Rattle.hyper_model.specs.Plans.{IsBetween}
+use Rattle.hyper_model.specs.declared.kinds.Measure.{Measure}
+use Rattle.hyper_model.specs.declared.kinds.Measure.TheVariants as measure
 use Rattle.text_lines.specs.Numbers.{number_in}
-use Rattle.command_words.specs.Options.{◌>>=◌, AreWorkers, options_of}
+use Rattle.command_words.specs.Options.{◌>>=◌, AreWorkers}
 use Rattle.command_words.specs.Arguments.{lists_of}
+use Rattle.command_words.specs.Plain.{file_with_number, file_with_options, name_in, unit_in}
 use Rattle.command_words.specs.declared.command.Command.{Command}
-use Rattle.command_words.specs.declared.command.Command.TheVariants.{Solve, Compare, Make, Finite, Pairs}
+use Rattle.command_words.specs.declared.command.Command.TheVariants.{Solve, Compare, Make, Finite, Pairs, Sweep, Replay}
 use Rattle.command_words.specs.declared.command.WordsEnd.{WordsEnd}
 use Rattle.command_words.specs.declared.command.WordsEnd.TheVariants as end
 use Rattle.command_words.specs.declared.options.Setting.{Setting}
 
 abbrev pub usage_line : List ℕ
-usage_line = codes "usage: hypercube solve FILE | compare STUDY | make UNITS NUMBER | finite FILE PLACES | pairs FILE PERCENT [--width W] [--time-width W] [--workers N] [--summary]\n"
-
--- 1 to 255 bytes
-abbrev pub has_name_length : List ℕ → Bool
-has_name_length text = nat_le 1 (length text) && nat_le (length text) 255
-
-abbrev pub name_in : List ℕ → Option (List ℕ)
-name_in text = if has_name_length text then Some text else None
+usage_line = codes "usage: hypercube solve FILE | compare STUDY | make UNITS NUMBER | finite FILE PLACES | pairs FILE PERCENT | sweep FILE UNIT MEASURE | replay FILE DAY [--width W] [--time-width W] [--workers N] [--summary]\n"
 
 -- one file, and all options may be given
 unfoldable pub solve_of : List (List ℕ) → List Setting → Option Command
-solve_of (file ∷ []) settings = do
-  options ← options_of settings
-  name ← name_in file
-  Some (Solve name options.widths options.workers options.summary)
-solve_of names settings = None
+solve_of names settings = do
+  given ← file_with_options names settings
+  Some (Solve given.0 given.1.widths given.1.workers given.1.summary)
 
 -- one file, and all options but the flag
 unfoldable pub compare_of : List (List ℕ) → List Setting → Option Command
-compare_of (study ∷ []) settings = do
-  options ← options_of settings
-  name ← name_in study
-  if options.summary then None else Some (Compare name options.widths options.workers)
-compare_of names settings = None
+compare_of names settings = do
+  given ← file_with_options names settings
+  if given.1.summary then None else Some (Compare given.0 given.1.widths given.1.workers)
 
--- two numbers of 1 to 18 digits, and no option
-unfoldable pub make_of : List (List ℕ) → List Setting → Option Command
-make_of (units ∷ number ∷ []) [] = do
+-- two numbers of 1 to 18 digits
+unfoldable pub make_of : List (List ℕ) → Option Command
+make_of (units ∷ number ∷ []) = do
   u ← number_in 18 units
   n ← number_in 18 number
   Some (Make u n)
-make_of numbers settings = None
+make_of numbers = None
 
--- 1 to 1000 waiting places
-pub record ArePlaces (places : ℕ) : Type 0 where
-  pub least : 1 ≤ places
-  pub most : places ≤ 1000
+-- one file and 1 to 1000 waiting places
+unfoldable pub finite_of : List (List ℕ) → Option Command
+finite_of names = do
+  given ← file_with_number 4 1 1000 names
+  Some (Finite given.0 given.1)
 
-abbrev pub are_places : ℕ → Bool
-are_places places = nat_le 1 places && nat_le places 1000
+-- one file and up to a hundred calls in a hundred
+unfoldable pub pairs_of : List (List ℕ) → Option Command
+pairs_of names = do
+  given ← file_with_number 3 0 100 names
+  Some (Pairs given.0 given.1)
 
--- in 1 to 4 digits
-abbrev pub places_in : List ℕ → Option ℕ
-places_in text = do
-  places ← number_in 4 text
-  if are_places places then Some places else None
+-- the measures by which sites are compared
+abbrev pub site_measures : List Measure
+site_measures = measure.Loss ∷ measure.Delay ∷ measure.Interdistrict ∷ measure.Travel ∷ []
 
--- one file and a number of waiting places, and no option
-unfoldable pub finite_of : List (List ℕ) → List Setting → Option Command
-finite_of (file ∷ places ∷ []) [] = do
-  k ← places_in places
+abbrev pub site_measure : List ℕ → Option Measure
+site_measure word = find (λ m. bytes_eq word (word_of m)) site_measures
+
+-- a file, a unit and a measure
+unfoldable pub sweep_of : List (List ℕ) → Option Command
+sweep_of (file ∷ unit ∷ word ∷ []) = do
+  m ← site_measure word
   name ← name_in file
-  Some (Finite name k)
-finite_of names settings = None
+  u ← unit_in unit
+  Some (Sweep name u m)
+sweep_of names = None
 
--- at most a hundred, in 1 to 3 digits
-abbrev pub percent_in : List ℕ → Option ℕ
-percent_in text = do
-  percent ← number_in 3 text
-  if nat_le percent 100 then Some percent else None
+-- two files
+unfoldable pub replay_of : List (List ℕ) → Option Command
+replay_of (file ∷ day ∷ []) = do
+  plan ← name_in file
+  recorded ← name_in day
+  Some (Replay plan recorded)
+replay_of names = None
 
--- one file and a number of calls in a hundred, and no option
-unfoldable pub pairs_of : List (List ℕ) → List Setting → Option Command
-pairs_of (file ∷ percent ∷ []) [] = do
-  p ← percent_in percent
-  name ← name_in file
-  Some (Pairs name p)
-pairs_of names settings = None
+-- what plain arguments ask for without options: the first of them says what the others are
+abbrev pub plain_command : List ℕ → List (List ℕ) → Option Command
+plain_command verb names =
+    if bytes_eq verb (codes "make") then make_of names
+    else if bytes_eq verb (codes "finite") then finite_of names
+    else if bytes_eq verb (codes "pairs") then pairs_of names
+    else if bytes_eq verb (codes "sweep") then sweep_of names
+    else if bytes_eq verb (codes "replay") then replay_of names
+    else None
 
--- what plain arguments and options ask for: the first plain argument says what the others are
-abbrev pub with_plain : List (List ℕ) → List Setting → Option Command
-with_plain [] settings = None
-with_plain (verb ∷ names) settings =
+-- nothing, if there is any option
+abbrev pub without_options : Option Command → List Setting → Option Command
+without_options asked [] = asked
+without_options asked settings = None
+
+-- what the first plain argument, the others and the options ask for
+abbrev pub asked_by : List ℕ → List (List ℕ) → List Setting → Option Command
+asked_by verb names settings =
     if bytes_eq verb (codes "solve") then solve_of names settings
     else if bytes_eq verb (codes "compare") then compare_of names settings
-    else if bytes_eq verb (codes "make") then make_of names settings
-    else if bytes_eq verb (codes "finite") then finite_of names settings
-    else if bytes_eq verb (codes "pairs") then pairs_of names settings
-    else None
+    else without_options (plain_command verb names) settings
+
+abbrev pub with_plain : List (List ℕ) → List Setting → Option Command
+with_plain [] settings = None
+with_plain (verb ∷ names) settings = asked_by verb names settings
 
 -- the command that arguments give, if they give one
 abbrev pub command : List (List ℕ) → Option Command
@@ -101,10 +110,17 @@ Gives given (Ok found) = given ≡ Some found
 Gives given (Err end.NoCommand) = given ≡ None
 Gives given (Err end.NoMemory) = Unit {0}
 
--- 1 to 16 workers, 1 to 1000 waiting places, and at most 100 calls of a hundred that need two units
+-- 1 to 1000 waiting places
+abbrev pub ArePlaces : ℕ → Type 0
+ArePlaces places = IsBetween 1 1000 places
+
+-- 1 to 16 workers, so many waiting places, at most 100 calls of a hundred that need two units, and sites that are compared
+-- by a measure of the region
 abbrev pub NumbersInRange : Command → Type 0
 NumbersInRange (Solve file widths workers summary) = AreWorkers workers
 NumbersInRange (Compare study widths workers) = AreWorkers workers
 NumbersInRange (Make units number) = Unit {0}
 NumbersInRange (Finite file places) = ArePlaces places
 NumbersInRange (Pairs file percent) = percent ≤ 100
+NumbersInRange (Sweep file unit m) = is_of_region m ≡ true
+NumbersInRange (Replay file day) = Unit {0}

@@ -1,3 +1,4 @@
 pub mod Options
 pub mod Arguments
+pub mod Plain
 pub mod Command

@@ -1,9 +1,10 @@
 use crate::Name255;
+use hyper_model::Measure;
 use report_text::Widths;
 
 /// What is written if the arguments are no command.
 pub const USAGE: &str =
-    "usage: hypercube solve FILE | compare STUDY | make UNITS NUMBER | finite FILE PLACES | pairs FILE PERCENT [--width W] [--time-width W] [--workers N] [--summary]\n";
+    "usage: hypercube solve FILE | compare STUDY | make UNITS NUMBER | finite FILE PLACES | pairs FILE PERCENT | sweep FILE UNIT MEASURE | replay FILE DAY [--width W] [--time-width W] [--workers N] [--summary]\n";
 
 /// What the program is asked to do.
 #[derive(Debug, Drop, PartialEq, Eq)]
@@ -48,6 +49,22 @@ pub enum Command {
         file: Name255,
         /// How many calls of a hundred need two units, from 0 to 100.
         percent: u32,
+    },
+    /// Report the atoms at which a unit of a plan may stand best.
+    Sweep {
+        /// The plan's file.
+        file: Name255,
+        /// The unit's name, of 1 to 32 bytes.
+        unit: Name255,
+        /// The measure by which the sites are compared: loss, delay, interdistrict or travel.
+        measure: Measure,
+    },
+    /// Replay a recorded day of a plan.
+    Replay {
+        /// The plan's file.
+        file: Name255,
+        /// The day's file.
+        day: Name255,
     },
 }
 

@@ -6,6 +6,7 @@ mod argument_lists;
 mod command;
 mod name;
 mod options;
+mod plain;
 mod reading;
 
 pub use command::{Command, USAGE, WordsEnd};

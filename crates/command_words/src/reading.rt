@@ -1,12 +1,16 @@
-ghost use Rattle.std.specs.Prelude.{◌≡◌, ◌≤◌, map, Some, None, IfOk, IfSome};
+ghost use Rattle.std.specs.Prelude.{◌≡◌, true, map, Some, None, IfOk, IfSome};
 ghost use Rattle.std.specs.Result.{IsErrOf};
 ghost use Rattle.std.specs.String.{string_bytes};
-ghost use Rattle.command_words.specs.Command.{ArePlaces, command, compare_of, finite_of, Gives, make_of, name_in, NumbersInRange, pairs_of, percent_in, places_in, solve_of, with_plain};
+ghost use Rattle.hyper_model.specs.Measures.{is_of_region};
+ghost use Rattle.command_words.specs.Command as spec;
+ghost use Rattle.command_words.specs.Command.{command, compare_of, finite_of, Gives, make_of, NumbersInRange, pairs_of, replay_of, solve_of, sweep_of, with_plain};
 
 use crate::argument_lists::read_arguments;
 use crate::name::MOST_FILE_NAME_BYTES;
-use crate::options::{Setting, options_of};
-use crate::{Command, Name255, WordsEnd};
+use crate::options::Setting;
+use crate::plain::{file_with_number, file_with_options, read_text};
+use crate::{Command, WordsEnd};
+use hyper_model::{MOST_NAME_BYTES, Measure};
 use std::alloc::Global;
 use text_lines::number_of;
 
@@ -16,14 +20,25 @@ const MOST_MAKE_DIGITS: usize = 18;
 /// The most digits of the number of waiting places.
 const MOST_PLACES_DIGITS: usize = 4;
 
+/// The least number of waiting places.
+const LEAST_PLACES: u32 = 1;
+
 /// The most waiting places.
-const MOST_PLACES: u64 = 1000;
+const MOST_PLACES: u32 = 1000;
 
 /// The most digits of the number of calls in a hundred.
 const MOST_PERCENT_DIGITS: usize = 3;
 
 /// The most calls in a hundred.
-const MOST_PERCENT: u64 = 100;
+const MOST_PERCENT: u32 = 100;
+
+/// The measures by which the sites of a unit are compared.
+const SITE_MEASURES: [Measure; 4] = [
+    Measure::Loss,
+    Measure::Delay,
+    Measure::Interdistrict,
+    Measure::Travel,
+];
 
 /// The command that these arguments give, which stand after the program's name.
 pub fn read_words(alloc: Global, words: &[String]) -> Result<Command, WordsEnd>
@@ -42,13 +57,23 @@ fn command_of(alloc: Global, plain: &[&str], settings: &[Setting]) -> Result<Com
     let [verb, names @ ..] = plain else {
         return Err(WordsEnd::NoCommand)
     };
-    match *verb {
+    asked_by(alloc, verb, names, settings)
+}
+
+/// What the first plain argument, the others and the options ask for.
+fn asked_by(
+    alloc: Global,
+    verb: &str,
+    names: &[&str],
+    settings: &[Setting],
+) -> Result<Command, WordsEnd>
+    ensures given { Gives (spec.asked_by verb.now (map (λ name. name.now) names.now) settings.now) result }
+    ensures numbers { IfOk result NumbersInRange }
+{
+    match verb {
         "solve" => solve(alloc, names, settings),
         "compare" => compare(alloc, names, settings),
-        "make" => make(names, settings),
-        "finite" => finite(alloc, names, settings),
-        "pairs" => pairs(alloc, names, settings),
-        _ => Err(WordsEnd::NoCommand),
+        _ => without_options(alloc, verb, names, settings),
     }
 }
 
@@ -57,14 +82,9 @@ fn solve(alloc: Global, names: &[&str], settings: &[Setting]) -> Result<Command,
     ensures given { Gives (solve_of (map (λ name. name.now) names.now) settings.now) result }
     ensures numbers { IfOk result NumbersInRange }
 {
-    let [file] = names else {
-        return Err(WordsEnd::NoCommand)
-    };
-    let Some(options) = options_of(settings) else {
-        return Err(WordsEnd::NoCommand)
-    };
+    let (file, options) = file_with_options(alloc, names, settings)?;
     Ok(Command::Solve {
-        file: read_name(alloc, file)?,
+        file,
         widths: options.widths,
         workers: options.workers,
         summary: options.summary,
@@ -76,33 +96,48 @@ fn compare(alloc: Global, names: &[&str], settings: &[Setting]) -> Result<Comman
     ensures given { Gives (compare_of (map (λ name. name.now) names.now) settings.now) result }
     ensures numbers { IfOk result NumbersInRange }
 {
-    let [study] = names else {
-        return Err(WordsEnd::NoCommand)
-    };
-    let Some(options) = options_of(settings) else {
-        return Err(WordsEnd::NoCommand)
-    };
+    let (study, options) = file_with_options(alloc, names, settings)?;
     if options.summary {
         return Err(WordsEnd::NoCommand);
     }
     Ok(Command::Compare {
-        study: read_name(alloc, study)?,
+        study,
         widths: options.widths,
         workers: options.workers,
     })
 }
 
+/// The command of these plain arguments, if there is no option.
+fn without_options(
+    alloc: Global,
+    verb: &str,
+    names: &[&str],
+    settings: &[Setting],
+) -> Result<Command, WordsEnd>
+    ensures given { Gives (spec.without_options (spec.plain_command verb.now (map (λ name. name.now) names.now)) settings.now) result }
+    ensures numbers { IfOk result NumbersInRange }
+{
+    if !settings.is_empty() {
+        return Err(WordsEnd::NoCommand);
+    }
+    match verb {
+        "make" => make(names),
+        "finite" => finite(alloc, names),
+        "pairs" => pairs(alloc, names),
+        "sweep" => sweep(alloc, names),
+        "replay" => replay(alloc, names),
+        _ => Err(WordsEnd::NoCommand),
+    }
+}
+
 #[tactic(auto, unfolding(crate::specs::Command::make_of))]
-fn make(numbers: &[&str], settings: &[Setting]) -> Result<Command, WordsEnd>
-    ensures given { Gives (make_of (map (λ number. number.now) numbers.now) settings.now) result }
+fn make(numbers: &[&str]) -> Result<Command, WordsEnd>
+    ensures given { Gives (make_of (map (λ number. number.now) numbers.now)) result }
     ensures numbers { IfOk result NumbersInRange }
 {
     let [units, number] = numbers else {
         return Err(WordsEnd::NoCommand)
     };
-    if !settings.is_empty() {
-        return Err(WordsEnd::NoCommand);
-    }
     let Some(units) = number_of(units, MOST_MAKE_DIGITS) else {
         return Err(WordsEnd::NoCommand)
     };
@@ -113,77 +148,74 @@ fn make(numbers: &[&str], settings: &[Setting]) -> Result<Command, WordsEnd>
 }
 
 #[tactic(auto, unfolding(crate::specs::Command::finite_of))]
-fn finite(alloc: Global, names: &[&str], settings: &[Setting]) -> Result<Command, WordsEnd>
-    ensures given { Gives (finite_of (map (λ name. name.now) names.now) settings.now) result }
+fn finite(alloc: Global, names: &[&str]) -> Result<Command, WordsEnd>
+    ensures given { Gives (finite_of (map (λ name. name.now) names.now)) result }
     ensures numbers { IfOk result NumbersInRange }
 {
-    let [file, places] = names else {
-        return Err(WordsEnd::NoCommand)
-    };
-    let [] = settings else {
-        return Err(WordsEnd::NoCommand)
-    };
-    let Some(places) = places_of(places) else {
-        return Err(WordsEnd::NoCommand)
-    };
-    Ok(Command::Finite {
-        file: read_name(alloc, file)?,
-        places,
-    })
-}
-
-/// The number of waiting places that a text is, if it is one.
-fn places_of(text: &str) -> Option<u32>
-    ensures places { result ≡ places_in text.now }
-    ensures in_range { IfSome result ArePlaces }
-{
-    let places = number_of(text, MOST_PLACES_DIGITS)?;
-    if places < 1 || MOST_PLACES < places {
-        return None;
-    }
-    Some(places as u32)
+    let (file, places) = file_with_number(
+        alloc,
+        names,
+        MOST_PLACES_DIGITS,
+        LEAST_PLACES,
+        MOST_PLACES,
+    )?;
+    Ok(Command::Finite { file, places })
 }
 
 #[tactic(auto, unfolding(crate::specs::Command::pairs_of))]
-fn pairs(alloc: Global, names: &[&str], settings: &[Setting]) -> Result<Command, WordsEnd>
-    ensures given { Gives (pairs_of (map (λ name. name.now) names.now) settings.now) result }
+fn pairs(alloc: Global, names: &[&str]) -> Result<Command, WordsEnd>
+    ensures given { Gives (pairs_of (map (λ name. name.now) names.now)) result }
     ensures numbers { IfOk result NumbersInRange }
 {
-    let [file, percent] = names else {
+    let (file, percent) = file_with_number(alloc, names, MOST_PERCENT_DIGITS, 0, MOST_PERCENT)?;
+    Ok(Command::Pairs { file, percent })
+}
+
+#[tactic(auto, unfolding(crate::specs::Command::sweep_of))]
+fn sweep(alloc: Global, names: &[&str]) -> Result<Command, WordsEnd>
+    ensures given { Gives (sweep_of (map (λ name. name.now) names.now)) result }
+    ensures numbers { IfOk result NumbersInRange }
+{
+    let [file, unit, word] = names else {
         return Err(WordsEnd::NoCommand)
     };
-    let [] = settings else {
+    let Some(measure) = site_measure(word) else {
         return Err(WordsEnd::NoCommand)
     };
-    let Some(percent) = percent_of(percent) else {
-        return Err(WordsEnd::NoCommand)
-    };
-    Ok(Command::Pairs {
-        file: read_name(alloc, file)?,
-        percent,
+    Ok(Command::Sweep {
+        file: read_text(alloc, file, MOST_FILE_NAME_BYTES)?,
+        unit: read_text(alloc, unit, MOST_NAME_BYTES)?,
+        measure,
     })
 }
 
-/// How many calls in a hundred a text says, if it says so.
-fn percent_of(text: &str) -> Option<u32>
-    ensures percent { result ≡ percent_in text.now }
-    ensures in_range { IfSome result (λ percent. percent ≤ 100) }
+/// The measure of this word, if sites are compared by it.
+fn site_measure(word: &str) -> Option<Measure>
+    ensures measure { result ≡ spec.site_measure word.now }
+    ensures region { IfSome result (λ measure. is_of_region measure ≡ true) }
 {
-    let percent = number_of(text, MOST_PERCENT_DIGITS)?;
-    if MOST_PERCENT < percent {
-        return None;
-    }
-    Some(percent as u32)
+    find_measure(word)
 }
 
-fn read_name(alloc: Global, text: &str) -> Result<Name255, WordsEnd>
-    ensures { Gives (name_in text.now) result }
+fn find_measure(word: &str) -> Option<Measure>
+    ensures { result ≡ spec.site_measure word.now }
 {
-    if text.is_empty() || text.len() > MOST_FILE_NAME_BYTES {
-        return Err(WordsEnd::NoCommand);
-    }
-    match Name255::of(alloc, text) {
-        Ok(name) => Ok(name),
-        Err(_) => Err(WordsEnd::NoMemory),
-    }
+    SITE_MEASURES
+        .iter()
+        .copied()
+        .find(|measure| word == measure.word())
+}
+
+#[tactic(auto, unfolding(crate::specs::Command::replay_of))]
+fn replay(alloc: Global, names: &[&str]) -> Result<Command, WordsEnd>
+    ensures given { Gives (replay_of (map (λ name. name.now) names.now)) result }
+    ensures numbers { IfOk result NumbersInRange }
+{
+    let [file, day] = names else {
+        return Err(WordsEnd::NoCommand)
+    };
+    Ok(Command::Replay {
+        file: read_text(alloc, file, MOST_FILE_NAME_BYTES)?,
+        day: read_text(alloc, day, MOST_FILE_NAME_BYTES)?,
+    })
 }

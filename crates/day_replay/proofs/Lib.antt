@@ -7,4 +7,3 @@ pub mod DayForm
 pub mod Counting
 mod Worked
 pub mod OwnNames
-pub mod FoundSteps

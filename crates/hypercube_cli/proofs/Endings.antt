@@ -74,6 +74,14 @@ answer_proved None proves answer result before after proved finishes = tt
 answer_proved (Some texts) proves answer result before after proved finishes =
     writes (proves texts) answer result before after proved finishes
 
+-- what is proved of the text of a command is proved of that of an equal one
+pub proved_as : {asked named : Command} (told : Option (List NamedText)) (answer : Result Ending Stop) → asked ≡ named
+    → IfSome (texts_for (meaning_of (Some named)) told)
+    (λ texts. IfOk answer (λ ending. ending.outcome ≡ outcome.Done → (meaning_of (Some named)).proves texts ending.text))
+    → IfSome (texts_for (meaning_of (Some asked)) told)
+    (λ texts. IfOk answer (λ ending. ending.outcome ≡ outcome.Done → (meaning_of (Some asked)).proves texts ending.text))
+proved_as told answer is proved = rw is proved
+
 -- an outcome of the command's own is no other's
 pub own_cause : (answer : Result Ending Stop) (o : Outcome) → IsOwn o → ComesFrom answer o
 own_cause answer outcome.Done own = tt

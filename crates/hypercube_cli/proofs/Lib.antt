@@ -1,9 +1,9 @@
 -- lemmas, each file on one subject
 pub mod ReadPlans
 pub mod WideMeasures
-pub mod TrueReports
-pub mod FiniteRuns
+pub mod PlanTasks
+pub mod TrueTexts
 pub mod TrueComparisons
+pub mod TrueReplays
 pub mod Faults
 pub mod Endings
-pub mod PairedCalls

@@ -8,7 +8,9 @@ use Rattle.hypercube_cli.specs.Tasks.Comparisons.{compare_meaning}
 use Rattle.hypercube_cli.specs.Tasks.FiniteLines.{finite_meaning}
 use Rattle.hypercube_cli.specs.Tasks.MadePlans.{make_meaning}
 use Rattle.hypercube_cli.specs.Tasks.PairedCalls.{pairs_meaning}
+use Rattle.hypercube_cli.specs.Tasks.ReplayedDays.{replay_meaning}
 use Rattle.hypercube_cli.specs.Tasks.Reports.{solve_meaning}
+use Rattle.hypercube_cli.specs.Tasks.SweptSites.{sweep_meaning}
 
 -- it ends with the usage line, and never well
 abbrev pub usage_meaning : Meaning
@@ -26,3 +28,5 @@ meaning_of (Some (command.Compare study widths workers)) = compare_meaning study
 meaning_of (Some (command.Make units number)) = make_meaning units number
 meaning_of (Some (command.Finite file places)) = finite_meaning file places
 meaning_of (Some (command.Pairs file percent)) = pairs_meaning file percent
+meaning_of (Some (command.Sweep file unit m)) = sweep_meaning file unit m
+meaning_of (Some (command.Replay file day)) = replay_meaning file day

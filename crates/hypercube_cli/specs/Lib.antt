@@ -2,6 +2,7 @@ pub mod Outcomes
 pub mod Refusals
 pub mod Lines
 pub mod Endings
+pub mod ListEndings
 pub mod Stops
 pub mod Readings
 pub mod Meanings

@@ -13,5 +13,5 @@ mod top;
 
 pub use command_words::{Command, Name255, WordsEnd, read_words};
 pub use outcome::{Outcome, status};
-pub use refusal::Refusal;
+pub use refusal::{Refusal, RefusalFields};
 pub use top::hypercube;

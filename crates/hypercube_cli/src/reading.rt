@@ -1,4 +1,4 @@
-ghost use Rattle.std.specs.Prelude.{◌≡◌, ◌≤◌, ℕ, List, Result, Some, IfErr, IfSome, length};
+ghost use Rattle.std.specs.Prelude.{◌≡◌, ◌≤◌, ℕ, List, Result, Some, IfErr, IfOk, IfSome, length};
 ghost use Rattle.std.specs.Result.{IsErrOf};
 ghost use Rattle.outer_world.specs.Faults.{Rose};
 ghost use Rattle.hypercube_cli.specs.Endings.{Ending};
@@ -22,6 +22,9 @@ pub(crate) trait Readable {
     // What the bytes of a text say, or the ending that stands in its place.
     ghost content: { Self → List ℕ → Result Self.Content Ending };
 
+    // What holds of all that is read.
+    ghost keeps: { Self → Self.Content → Type 0 };
+
     /// The place at which the command asks for it.
     fn place(&self) -> u32
         ensures { result ≡ place self.now };
@@ -29,6 +32,7 @@ pub(crate) trait Readable {
     /// What a text says.
     fn read(&self, alloc: Global, text: &[u8]) -> Result<Self::Content, Stop>
         ensures content { Reaches (content self.now text.now) result }
+        ensures keeps { IfOk result (keeps self.now) }
         ensures stop { IfErr result IsOfReading };
 }
 
@@ -44,6 +48,8 @@ impl Readable for PlanText {
     ghost place = { λ kind. kind.place };
 
     ghost content = { λ kind. plan_in kind.place };
+
+    ghost keeps = { λ _ _. Unit {0} };
 
     fn place(&self) -> u32 {
         self.place
@@ -68,6 +74,7 @@ pub(crate) fn read_named<T: Readable, S: Shelf>(
     requires { length name.now ≤ MOST_SHELF_NAME_BYTES }
     ensures content { IfSome (S.told shelf.old) (λ texts.
         Reaches (content_at (T.place kind.now) (T.content kind.now) texts name.now) result) }
+    ensures keeps { IfOk result (T.keeps kind.now) }
     ensures stop { IfErr result IsOfCommand }
     ensures fault { IsErrOf result Stop.ReadFault → Rose S.last_count (S.faults shelf.old) (S.faults shelf.new)
         × (S.last_fault shelf.new ≡ Some name.now) }

@@ -1,10 +1,12 @@
 ghost use Rattle.std.specs.Prelude.{◌≡◌};
 
+use day_replay::DayRefusal;
 use finite_line::FiniteRefusal;
 use pair_dispatch::PairRefusal;
 use plan_compare::StudyRefusal;
 use plan_maker::MakeRefusal;
 use plan_reader::PlanRefusal;
+use site_sweep::SweepRefusal;
 use text_lines::RefusalCode;
 
 /// What was refused, and why. It is never for lack of memory.
@@ -20,13 +22,18 @@ pub enum Refusal {
     Finite(FiniteRefusal),
     /// The plan whose calls were to need two units.
     Pair(PairRefusal),
+    /// The unit of a plan that was to be tried at each atom.
+    Sweep(SweepRefusal),
+    /// The recorded day, at place 2.
+    Day(DayRefusal),
 }
 
 /// What the text line of a refusal says.
 #[derive(Clone, Copy, Debug, PartialEq, Eq)]
-pub(crate) struct RefusalFields {
+pub struct RefusalFields {
     /// The place of the text that is refused, and 0 for what stands at none.
     pub place: u32,
+    /// The number of the reason, and its arguments.
     pub code: RefusalCode,
 }
 
@@ -34,30 +41,18 @@ impl Refusal {
     ghost use Rattle.hypercube_cli.specs.Refusals.{fields_of};
 
     /// What its text line says.
-    pub(crate) fn fields(self) -> RefusalFields
+    pub fn fields(self) -> RefusalFields
         ensures { result ≡ fields_of self }
     {
-        match self {
-            Refusal::Plan(place, plan) => RefusalFields {
-                place,
-                code: plan.code(),
-            },
-            Refusal::Study(study) => RefusalFields {
-                place: 0,
-                code: study.code(),
-            },
-            Refusal::Make(plan) => RefusalFields {
-                place: 0,
-                code: plan.code(),
-            },
-            Refusal::Finite(plan) => RefusalFields {
-                place: 1,
-                code: plan.code(),
-            },
-            Refusal::Pair(plan) => RefusalFields {
-                place: 1,
-                code: plan.code(),
-            },
-        }
+        let (place, code) = match self {
+            Refusal::Plan(place, plan) => (place, plan.code()),
+            Refusal::Study(study) => (0, study.code()),
+            Refusal::Make(plan) => (0, plan.code()),
+            Refusal::Finite(plan) => (1, plan.code()),
+            Refusal::Pair(plan) => (1, plan.code()),
+            Refusal::Sweep(unit) => (1, unit.code()),
+            Refusal::Day(day) => (2, day.code()),
+        };
+        RefusalFields { place, code }
     }
 }

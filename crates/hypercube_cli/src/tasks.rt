@@ -14,7 +14,10 @@ mod compare;
 mod finite;
 mod make;
 mod pairs;
+mod plan_task;
+mod replay;
 mod solve;
+mod sweep;
 
 use crate::Outcome;
 use crate::answer::Answer;
@@ -26,8 +29,11 @@ use hyper_model::{Enclosures, Plan};
 use make::Make;
 use outer_world::Shelf;
 use pairs::Pairs;
+use plan_task::OfPlan;
+use replay::Replay;
 use solve::Solve;
 use std::alloc::{AllocError, Global};
+use sweep::Sweep;
 
 /// What a command asks for, done over any shelf.
 ///
@@ -62,10 +68,17 @@ pub(crate) trait Task {
         ensures count { S.faults shelf.old ≤ S.faults shelf.new };
 }
 
-impl Task for Command {
-    ghost meaning = { λ command. meaning_of (Some command) };
+/// A command, and how many workers can be at work for it at once: it uses them if its arguments do not say how many.
+#[derive(Drop)]
+pub(crate) struct Job {
+    pub command: Command,
+    pub processors: u32,
+}
 
-    ghost in_range = { NumbersInRange };
+impl Task for Job {
+    ghost meaning = { λ job. meaning_of (Some job.command) };
+
+    ghost in_range = { λ job. NumbersInRange job.command × AreWorkers job.processors };
 
     #[tactic(auto, unfolding(crate::specs::Commands::meaning_of))]
     fn answer<S: Shelf, E: Fn(&[Plan], u32) -> Result<Vec<Enclosures>, AllocError>>(
@@ -74,19 +87,24 @@ impl Task for Command {
         shelf: &mut S,
         enclose: &E,
     ) -> Result<Answer, Stop> {
-        match self {
+        let Job {
+            command,
+            processors,
+        } = self;
+        match command {
             Command::Solve {
                 file,
                 widths,
                 workers,
                 summary,
-            } => Solve {
-                file,
-                widths,
-                workers,
-                summary,
+            } => {
+                let task = Solve {
+                    widths,
+                    workers,
+                    summary,
+                };
+                OfPlan { file, task }.answer(alloc, shelf, enclose)
             }
-            .answer(alloc, shelf, enclose),
             Command::Compare {
                 study,
                 widths,
@@ -99,11 +117,26 @@ impl Task for Command {
             .answer(alloc, shelf, enclose),
             Command::Make { units, number } => Make { units, number }.answer(alloc, shelf, enclose),
             Command::Finite { file, places } => {
-                Finite { file, places }.answer(alloc, shelf, enclose)
+                let task = Finite { places };
+                OfPlan { file, task }.answer(alloc, shelf, enclose)
             }
             Command::Pairs { file, percent } => {
-                Pairs { file, percent }.answer(alloc, shelf, enclose)
+                let task = Pairs { percent };
+                OfPlan { file, task }.answer(alloc, shelf, enclose)
             }
+            Command::Sweep {
+                file,
+                unit,
+                measure,
+            } => {
+                let task = Sweep {
+                    unit,
+                    measure,
+                    workers: processors,
+                };
+                OfPlan { file, task }.answer(alloc, shelf, enclose)
+            }
+            Command::Replay { file, day } => Replay { file, day }.answer(alloc, shelf, enclose),
         }
     }
 }

@@ -17,10 +17,10 @@ ghost use Rattle.hypercube_cli.specs.declared.refusal.Refusal.{Refusal};
 
 use crate::Outcome;
 use crate::answer::Answer;
-use crate::enclosing::enclose;
+use crate::enclosing::{enclose, processors_for};
 use crate::lines::refusal_text;
 use crate::stop::Stop;
-use crate::tasks::Task;
+use crate::tasks::{Job, Task};
 use command_words::{USAGE, WordsEnd, read_words};
 use hyper_model::{Enclosures, Plan};
 use outer_world::{Shelf, Sink, WriteEnd, write_text};
@@ -101,7 +101,12 @@ fn answer_of<R: Threads + Sync, S: Shelf, G: Gate + Sync>(
         Err(WordsEnd::NoCommand) => return Err(Stop::Usage),
         Err(WordsEnd::NoMemory) => return Err(Stop::NoMemory),
     };
-    command.answer(
+    let processors = processors_for(rt, &command);
+    let job = Job {
+        command,
+        processors,
+    };
+    job.answer(
         alloc,
         shelf,
         &|plans: &[Plan], workers: u32| -> Result<Vec<Enclosures>, AllocError>

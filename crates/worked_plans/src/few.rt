@@ -61,7 +61,14 @@ pub const ALL_BUT_FULL: &str = one_unit!(1000000, 999999, "line,infinite\n");
 /// Two units with opposite lists: 2 calls of 17 are lost.
 pub const TWO_UNITS: &str = two_units!("", 1, "prefer,P,A,B\nprefer,Q,B,A\n");
 
-/// The same units, if no calls come from the atom of the second.
+/// The same units, if calls that find both busy wait.
+pub const TWO_UNITS_WITH_A_QUEUE: &str = two_units!(
+    "",
+    1,
+    "prefer,P,A,B\nprefer,Q,B,A\nline,infinite\n"
+);
+
+/// Two like units with opposite lists, if no calls come from the atom of the second.
 pub const WITHOUT_CALLS: &str = two_units!("", 0, "prefer,P,A,B\nprefer,Q,B,A\n");
 
 /// Two units at one atom, the first of which is sent first.

@@ -8,6 +8,7 @@ use std::process::Abort;
 use std::str::from_utf8;
 use std::test::Fail;
 use std::thread::Threads;
+use worked_plans::street;
 
 /// A command line over a shelf with a text, and how the run ends.
 #[derive(Clone, Copy)]
@@ -40,6 +41,8 @@ pub(crate) enum Text {
     Repeated(&'static str, usize),
     /// The made plan of so many units and this number.
     Made(u64, u64),
+    /// So many units and two hundred atoms along a street.
+    Street(u8),
 }
 
 /// What is written.
@@ -151,6 +154,7 @@ fn bytes_of(alloc: Global, text: &Text) -> Result<Vec<u8>, Fail> {
         Text::Filled(base, bytes) => text_of_size(alloc, base, bytes)?,
         Text::Repeated(part, times) => repeated_text(alloc, part, times)?,
         Text::Made(units, number) => made_text(alloc, units, number)?,
+        Text::Street(units) => Vec::from_slice(alloc, street(alloc, units)?.as_bytes())?,
     })
 }
 

@@ -27,7 +27,7 @@ fn command_lines_end_so(rt: HostRuntime) -> Result<(), Fail> {
 type Ended = (&'static str, u8, Written);
 
 pub(crate) const USAGE: &str = "\
-usage: hypercube solve FILE | compare STUDY | make UNITS NUMBER | finite FILE PLACES | pairs FILE PERCENT [--width W] [--time-width W] [--workers N] [--summary]
+usage: hypercube solve FILE | compare STUDY | make UNITS NUMBER | finite FILE PLACES | pairs FILE PERCENT | sweep FILE UNIT MEASURE | replay FILE DAY [--width W] [--time-width W] [--workers N] [--summary]
 ";
 
 const ENDED: &[Ended] = &[
@@ -183,7 +183,40 @@ const NO_COMMANDS: &str = " \n\
     pairs a.csv 1 --summary\n\
     pairs a.csv 1 --width 2\n\
     pairs --time-width=2 a.csv 1\n\
-    --workers 2 pairs a.csv 1";
+    --workers 2 pairs a.csv 1\n\
+    sweep\n\
+    sweep a.csv\n\
+    sweep a.csv A\n\
+    sweep a.csv A \n\
+    sweep a.csv  loss\n\
+    sweep  A loss\n\
+    sweep a.csv A loss loss\n\
+    sweep a.csv loss A\n\
+    Sweep a.csv A loss\n\
+    sweep a.csv A Loss\n\
+    sweep a.csv A losses\n\
+    sweep a.csv A queue\n\
+    sweep a.csv A wait\n\
+    sweep a.csv A workload\n\
+    sweep a.csv A travel-unit\n\
+    sweep a.csv ABCDEFGHIJKLMNOPQRSTUVWXYZABCDEFG loss\n\
+    sweep a.csv ÜÜÜÜÜÜÜÜÜÜÜÜÜÜÜÜA loss\n\
+    sweep a.csv A loss --summary\n\
+    sweep a.csv A travel --width 2\n\
+    sweep --time-width=2 a.csv A travel\n\
+    --workers 2 sweep a.csv A travel\n\
+    sweep a.csv -- A loss --workers\n\
+    replay\n\
+    replay a.csv\n\
+    replay a.csv \n\
+    replay  b.csv\n\
+    replay a.csv b.csv c.csv\n\
+    Replay a.csv b.csv\n\
+    replay a.csv -b.csv\n\
+    replay a.csv b.csv --summary\n\
+    replay a.csv b.csv --width 2\n\
+    replay --time-width=2 a.csv b.csv\n\
+    --workers 2 replay a.csv b.csv";
 
 #[test]
 fn plain_words_that_give_no_command(rt: HostRuntime) -> Result<(), Fail> {

@@ -1,10 +1,13 @@
 use crate::cases::{run, run_with_faults};
 use crate::commands::USAGE;
+use crate::days::{DAY, TWO_UNITS_PLAYED};
 use crate::finite::HALF_LOAD_ONE_PLACE;
 use crate::pairs::TWO_UNITS_ALL;
 use crate::reports::{HALF_LOAD_REPORT, MADE_PLAN};
 use crate::shelves::words_of;
+use crate::sites::FIRST_OF_TWO_BY_TRAVEL;
 use crate::studies::{TWO_AND_HALF, TWO_AND_HALF_COMPARED};
+use day_replay::DayRefusal;
 use finite_line::FiniteRefusal;
 use hyper_model::Measure;
 use hypercube_cli::{Outcome, Refusal, hypercube};
@@ -13,6 +16,7 @@ use pair_dispatch::PairRefusal;
 use plan_compare::StudyRefusal;
 use plan_reader::PlanRefusal;
 use rate_matrix::OpenGate;
+use site_sweep::SweepRefusal;
 use std::alloc::Global;
 use std::fs;
 use std::process::Abort;
@@ -92,6 +96,38 @@ const COMMANDS: &[Command] = &[
         written: "refused,1,84,1\n",
     },
     Command {
+        line: "sweep a.csv A travel",
+        text: TWO_UNITS,
+        reads: 18,
+        writes: 1,
+        outcome: Outcome::Done,
+        written: FIRST_OF_TWO_BY_TRAVEL,
+    },
+    Command {
+        line: "sweep a.csv C travel",
+        text: TWO_UNITS,
+        reads: 18,
+        writes: 1,
+        outcome: Outcome::Refused(Refusal::Sweep(SweepRefusal::SweepUnit)),
+        written: "refused,1,85\n",
+    },
+    Command {
+        line: "replay two.csv a.csv",
+        text: DAY,
+        reads: 26,
+        writes: 3,
+        outcome: Outcome::Done,
+        written: TWO_UNITS_PLAYED,
+    },
+    Command {
+        line: "replay two.csv a.csv",
+        text: "free,5,A\n",
+        reads: 21,
+        writes: 1,
+        outcome: Outcome::Refused(Refusal::Day(DayRefusal::NotBusy(1))),
+        written: "refused,2,95,1\n",
+    },
+    Command {
         line: "solve a.csv",
         text: "station,A\n",
         reads: 3,
@@ -111,7 +147,7 @@ const COMMANDS: &[Command] = &[
         line: "solve",
         text: "",
         reads: 0,
-        writes: 2,
+        writes: 3,
         outcome: Outcome::Usage,
         written: USAGE,
     },
@@ -222,6 +258,29 @@ const ENDED: &[Ended] = &[
         Outcome::Refused(Refusal::Pair(PairRefusal::PairUnits(11))),
     ),
     ("pairs x.csv 1", "", Outcome::Absent(1)),
+    ("replay x.csv a.csv", DAY, Outcome::Absent(1)),
+    ("replay two.csv x.csv", DAY, Outcome::Absent(2)),
+    (
+        "replay bad.csv x.csv",
+        DAY,
+        Outcome::Refused(Refusal::Plan(1, PlanRefusal::UnknownKind(1))),
+    ),
+    (
+        "replay two.csv a.csv",
+        "call,5,P\ncall,4,P\n",
+        Outcome::Refused(Refusal::Day(DayRefusal::DayOrder(2))),
+    ),
+    (
+        "sweep a.csv A loss",
+        "unit,A,0\n",
+        Outcome::Refused(Refusal::Plan(1, PlanRefusal::BadNumber(1, 3))),
+    ),
+    (
+        "sweep a.csv B loss",
+        THIRD_LOAD_WITH_A_QUEUE,
+        Outcome::Refused(Refusal::Sweep(SweepRefusal::SweepUnit)),
+    ),
+    ("sweep x.csv A loss", "", Outcome::Absent(1)),
     (
         "solve a.csv --time-width 12",
         THREE_UNITS,

@@ -4,6 +4,7 @@ use hypercube_cli::Outcome;
 use rate_matrix::{Gate, OpenGate};
 use std::sync::atomic::{AtomicBool, AtomicU64, Ordering};
 use std::test::Fail;
+use std::thread::{Threads, available_parallelism};
 
 const STUDY: &[u8] = b"plans = [\"two.csv\", \"two.csv\"]\nmeasures = [\"loss\"]\n";
 
@@ -76,4 +77,22 @@ fn plans_of_a_study_go_in_step(rt: HostRuntime) -> Result<(), Fail> {
         assert_eq!(rt; gate.has_failed(), fails, "{line}");
     }
     Ok(())
+}
+
+/// Sites are shared out among as many workers as there are processors, so they go in step if there are two or more.
+#[test]
+fn sites_of_a_unit_go_in_step(rt: HostRuntime) -> Result<(), Fail> {
+    let gate = InStep::of(100_000_000);
+    let (got, _) = run(&rt, rt.alloc(), "sweep two.csv B travel", b"", &gate)?;
+    assert_eq!(rt; got, Outcome::Done);
+    assert!(rt; gate.had_both());
+    assert_eq!(rt; gate.has_failed(), has_one_processor(&rt));
+    Ok(())
+}
+
+fn has_one_processor<R: Threads>(rt: &R) -> bool {
+    match available_parallelism(rt) {
+        Ok(count) => count.get() == 1,
+        Err(_) => false,
+    }
 }

@@ -6,6 +6,8 @@ mod cases;
 #[cfg(test)]
 mod commands;
 #[cfg(test)]
+mod days;
+#[cfg(test)]
 mod faults;
 #[cfg(test)]
 mod finite;
@@ -23,6 +25,8 @@ mod reports;
 mod same_bytes;
 #[cfg(test)]
 mod shelves;
+#[cfg(test)]
+mod sites;
 #[cfg(test)]
 mod solved;
 #[cfg(test)]

@@ -1,7 +1,10 @@
 use hyper_model::Name;
 use outer_world::{Bytes, NamedText};
 use std::alloc::{AllocError, Global};
-use worked_plans::{HALF_LOAD, LITTLE_MORE, SEVEN_SWAMPED, THIRD_LOAD, TWO_UNITS};
+use worked_plans::{
+    HALF_LOAD, LITTLE_MORE, ONE_GROUP, SEVEN_SWAMPED, THIRD_LOAD, THIRD_LOAD_WITH_A_QUEUE,
+    THREE_UNLIKE, TWO_UNITS, TWO_UNITS_WITH_A_QUEUE,
+};
 
 /// The words of a command line without blanks in its words.
 pub(crate) fn words_of(alloc: Global, line: &str) -> Result<Vec<String>, AllocError> {
@@ -12,7 +15,8 @@ pub(crate) fn words_of(alloc: Global, line: &str) -> Result<Vec<String>, AllocEr
     Ok(words)
 }
 
-/// A shelf that has this text by the names `a.csv`, `-x.csv` and `s.toml`, and beside it the plans that studies name.
+/// A shelf that has this text by the names `a.csv`, `-x.csv` and `s.toml`, and beside it the plans that studies and days go
+/// with.
 pub(crate) fn shelf_with(alloc: Global, text: &[u8]) -> Result<Vec<NamedText>, AllocError> {
     let mut texts = texts_of(alloc, PLANS)?;
     for name in ["a.csv", "-x.csv", "s.toml"] {
@@ -29,6 +33,10 @@ const PLANS: &[(&str, &str)] = &[
     ("more.csv", LITTLE_MORE),
     ("two.csv", TWO_UNITS),
     ("swamped.csv", SEVEN_SWAMPED),
+    ("queue.csv", THIRD_LOAD_WITH_A_QUEUE),
+    ("late.csv", TWO_UNITS_WITH_A_QUEUE),
+    ("group.csv", ONE_GROUP),
+    ("unlike.csv", THREE_UNLIKE),
     ("bad.csv", "station,A\n"),
 ];
 

@@ -18,6 +18,7 @@ use Rattle.plan_compare.specs.declared.ending.CompareEnd.TheVariants as end
 use Rattle.plan_text.specs.Steps.{◌>>=◌}
 use Rattle.hypercube_cli.specs.declared.refusal.Refusal.TheVariants as refused
 use Rattle.hypercube_cli.specs.Endings.{Ending, EndsFrom, done_ending, wide_ending}
+use Rattle.hypercube_cli.specs.ListEndings.{IsEndingOfList}
 use Rattle.hypercube_cli.specs.Meanings.{Meaning}
 use Rattle.hypercube_cli.specs.Readings.{content_at, plan_at, unless_refused}
 
@@ -45,10 +46,8 @@ comparison_ending study widths found =
     unless_wide_value (first_wide_of widths found (value_places study)) (done_ending (comparison_bytes study found))
 
 -- the ending for the plans of a study, whose measures have the ends of the method
-pub record IsCompared (plans : List PlanParts) (study : StudyParts) (widths : Widths) (ending : Ending) : Type 0 where
-  pub found : List EnclosureList
-  pub enclosed : AreEnclosuresOf plans found
-  pub ends : ending ≡ comparison_ending study widths found
+abbrev pub IsCompared : List PlanParts → StudyParts → Widths → Ending → Type 0
+IsCompared plans study widths = IsEndingOfList (AreEnclosuresOf plans) (comparison_ending study widths)
 
 -- The text is the comparison of these plans. For each plan there is one list of measures with the ends of the method. Its
 -- values contain their measures, and its verdicts are true, for every solution of each plan.

@@ -1,5 +1,5 @@
 -- What it means to solve a plan: its report, or the first measure whose ends lie further apart than was asked.
-use Rattle.std.specs.Prelude.{◌≡◌, ℕ, Bool, true, List, Option, Some, None, Result, Ok}
+use Rattle.std.specs.Prelude.{ℕ, Bool, List, Option, Some, None}
 use Rattle.hyper_model.specs.declared.kinds.Enclosed.{Enclosed}
 use Rattle.hyper_model.specs.declared.kinds.Found.{Found}
 use Rattle.hyper_model.specs.declared.kinds.Found.TheVariants as found
@@ -7,16 +7,16 @@ use Rattle.hyper_model.specs.declared.kinds.Measure.{Measure}
 use Rattle.hyper_model.specs.declared.parts.PlanParts.{PlanParts}
 use Rattle.hyper_model.specs.Laws.{HavePositiveDenominators}
 use Rattle.hyper_model.specs.Measures.{ContainsSolutions}
-use Rattle.hyper_model.specs.Plans.{IsAccepted}
 use Rattle.hyper_model.specs.Solutions.{HasSolution}
 use Rattle.report_text.specs.declared.ending.Widths.{Widths}
 use Rattle.report_text.specs.Labels.{label_bytes}
 use Rattle.report_text.specs.Reports.{report_bytes}
 use Rattle.report_text.specs.TooWide.{first_wide}
 use Rattle.plan_solver.specs.Enclosures.{IsEnclosureOf}
-use Rattle.hypercube_cli.specs.Endings.{Ending, EndsFrom, done_ending, wide_ending}
+use Rattle.hypercube_cli.specs.Endings.{Ending, done_ending, wide_ending}
+use Rattle.hypercube_cli.specs.ListEndings.{IsEndingOfList, IsTextOfList}
 use Rattle.hypercube_cli.specs.Meanings.{Meaning}
-use Rattle.hypercube_cli.specs.Readings.{plan_at}
+use Rattle.hypercube_cli.specs.Tasks.Plans.{plan_meaning}
 
 -- a measure without ends is never too wide
 abbrev pub wide_found : PlanParts → Measure → Found → Ending → Ending
@@ -33,30 +33,17 @@ report_ending p widths summary items =
     unless_wide p (first_wide widths summary items) (done_ending (report_bytes p items summary))
 
 -- the ending for a plan, whose measures have the ends of the method
-pub record IsReported (p : PlanParts) (widths : Widths) (summary : Bool) (ending : Ending) : Type 0 where
-  pub items : List Enclosed
-  pub enclosed : IsEnclosureOf p items
-  pub ends : ending ≡ report_ending p widths summary items
+abbrev pub IsReported : PlanParts → Widths → Bool → Ending → Type 0
+IsReported p widths summary = IsEndingOfList (IsEnclosureOf p) (report_ending p widths summary)
 
--- The text is the report, or the summary, of this plan, which is accepted. Its balance equations have a solution. There
--- is one list of measures with the ends of the method, and for each solution these contain what Larson's formulas give:
--- a ratio whose denominator is positive.
-pub record IsProvedReport (given : Result PlanParts Ending) (summary : Bool) (text : List ℕ) : Type 0 where
-  pub plan : PlanParts
-  pub items : List Enclosed
-  pub read : given ≡ Ok plan
-  pub accepted : IsAccepted plan
-  pub enclosed : IsEnclosureOf plan items
-  pub alone : (others : List Enclosed) → IsEnclosureOf plan others → others ≡ items
-  pub written : text ≡ report_bytes plan items summary
-  pub solvable : HasSolution plan
-  pub positive : HavePositiveDenominators plan
-  pub contains : ContainsSolutions plan items
+-- The text is the report, or the summary, of this plan. Its balance equations have a solution. There is one list of
+-- measures with the ends of the method, and for each solution these contain what Larson's formulas give: a ratio whose
+-- denominator is positive.
+pub record IsTrueReport (p : PlanParts) (summary : Bool) (text : List ℕ) : Type 0 where
+  pub solvable : HasSolution p
+  pub positive : HavePositiveDenominators p
+  pub contains : IsTextOfList (IsEnclosureOf p) (λ items. report_bytes p items summary) (ContainsSolutions p) text
 
 abbrev pub solve_meaning : List ℕ → Widths → Bool → Meaning
-solve_meaning file widths summary = record {
-  ends = λ texts. EndsFrom (plan_at texts 1 file) (λ plan. IsReported plan widths summary);
-  proves = λ texts. IsProvedReport (plan_at texts 1 file) summary;
-  asks = λ told fault. fault ≡ Some file;
-  reads = true;
-}
+solve_meaning file widths summary =
+    plan_meaning file (λ plan. IsReported plan widths summary) (λ plan. IsTrueReport plan summary)

@@ -59,6 +59,8 @@ impl Readable for StudyText {
 
     ghost content = { λ _. study_in };
 
+    ghost keeps = { λ _ _. Unit {0} };
+
     fn place(&self) -> u32 {
         0
     }

@@ -1,40 +1,39 @@
-ghost use Rattle.std.specs.Prelude.{◌≡◌, Ok, IfOk};
+ghost use Rattle.std.specs.Prelude.{◌≡◌, IfOk};
+ghost use Rattle.hyper_model.specs.Plans.{IsAccepted};
 ghost use Rattle.command_words.specs.Options.{AreWorkers};
 ghost use Rattle.plan_solver.specs.Enclosures.{IsEnclosureOf};
-ghost use Rattle.hypercube_cli.specs.Tasks.Reports.{IsProvedReport, IsReported, solve_meaning};
+ghost use Rattle.hypercube_cli.specs.Tasks.Reports.{IsReported, IsTrueReport};
 
 use crate::Outcome;
 use crate::answer::Answer;
-use crate::reading::{PlanText, read_named};
 use crate::stop::Stop;
-use crate::tasks::Task;
-use command_words::Name255;
-use hyper_model::{Enclosures, Plan, law_accepted};
-use outer_world::Shelf;
+use crate::tasks::plan_task::PlanTask;
+use hyper_model::{Enclosures, Plan};
 use report_text::{ReportEnd, Widths, label, report};
 use std::alloc::{AllocError, Global};
 
 /// Reports the measures of a plan.
 #[derive(Drop)]
 pub(crate) struct Solve {
-    pub file: Name255,
     pub widths: Widths,
     pub workers: u32,
     pub summary: bool,
 }
 
-impl Task for Solve {
-    ghost meaning = { λ task. solve_meaning task.file task.widths task.summary };
+impl PlanTask for Solve {
+    ghost ends = { λ task plan. IsReported plan task.widths task.summary };
+
+    ghost proves = { λ task plan. IsTrueReport plan task.summary };
 
     ghost in_range = { λ task. AreWorkers task.workers };
 
-    fn answer<S: Shelf, E: Fn(&[Plan], u32) -> Result<Vec<Enclosures>, AllocError>>(
+    fn answer_for<E: Fn(&[Plan], u32) -> Result<Vec<Enclosures>, AllocError>>(
         self,
         alloc: Global,
-        shelf: &mut S,
+        plan: Plan,
         enclose: &E,
     ) -> Result<Answer, Stop> {
-        let plans = [read_named(alloc, shelf, &PlanText { place: 1 }, self.file.text())?];
+        let plans = [plan];
         let found = enclose(&plans, self.workers)?;
         Ok(report_answer(alloc, &plans[0], &found[0], self.widths, self.summary)?)
     }
@@ -48,12 +47,11 @@ fn report_answer(
     widths: Widths,
     summary: bool,
 ) -> Result<Answer, AllocError>
-    requires { IsEnclosureOf plan.now found.now.items }
+    requires accepted { IsAccepted plan.now }
+    requires enclosed { IsEnclosureOf plan.now found.now.items }
     ensures ending { IfOk result (λ answer. IsReported plan.now widths summary answer) }
-    ensures proved { IfOk result (λ answer. answer.outcome ≡ Outcome.Done
-        → IsProvedReport (Ok plan.now) summary answer.text) }
+    ensures proved { IfOk result (λ answer. answer.outcome ≡ Outcome.Done → IsTrueReport plan.now summary answer.text) }
 {
-    law_accepted(plan);
     match report(alloc, plan, found, widths, summary) {
         Ok(text) => Ok(Answer::of_text(text)),
         Err(ReportEnd::TooWide(measure, low, high)) => {
