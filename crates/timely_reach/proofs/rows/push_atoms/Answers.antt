@@ -1,0 +1,18 @@
+use Rattle.std.proofs.Common.{◌∷◌, [], List, length, ap, arith, length-append}
+use Rattle.hyper_model.proofs.Ranges.{map_more}
+use Rattle.timely_reach.specs.declared.kinds.ReachMeasure.TheVariants as measure
+use Rattle.timely_reach.specs.declared.kinds.ReachRow.{ReachRow}
+use Rattle.timely_reach.specs.ReachRows.{row_of}
+use Rattle.timely_reach.proofs.rows.push_atoms.Goals as goal
+
+pub loop-atom-preserved : goal.loop-atom-preserved
+loop-atom-preserved c = record {
+  rows = map_more (λ k. row_of c.args.plan.now c.args.timely.now c.args.parts.now (measure.Atom k)) c.args.rows.now
+      c.loop-atom.rows c.push.new.self c.loop-atom.atom c.in_ok-row_of.field-0 c.loop-atom.invariant.rows c.in_ok-row_of.ensures c.push.ensures;
+  count = omega (
+    arith,
+    ap (λ (l : List ReachRow). length l) c.push.ensures,
+    length-append c.loop-atom.rows (c.in_ok-row_of.field-0 ∷ []),
+    c.loop-atom.invariant.count,
+  );
+}

@@ -1,0 +1,7 @@
+pub mod TimelyPlans
+pub mod Reach
+pub mod ReachLaws
+pub mod ReachEnds
+pub mod ReachRows
+pub mod Limits
+pub mod Rows
