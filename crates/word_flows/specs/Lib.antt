@@ -1,0 +1,2 @@
+pub mod TurnRates
+pub mod CertifiedWeights
