@@ -40,13 +40,13 @@ class Plan:
                 self.groups[row[1]].append([self.unit[name] for name in row[2:]])
             if row[0] == "prefer":
                 self.groups[row[1]] = [[self.unit[name]] for name in row[2:]]
-        if self.settings.get("rule", "given") == "modified":
+        if self.settings.get("rule", "given") != "given":
             self.by_distance(rows, atoms)
         self.lists = list(self.groups.values())
         self.split = 1 if all(len(group) == 1 for groups in self.lists for group in groups) else SHARES
 
     def by_distance(self, rows, atoms):
-        """The lists of the rule `modified`: costs are distances to the mean point of a unit, in thousandths."""
+        """The lists of the rules `modified` and `strict`: costs are distances of the mean points of units, in thousandths."""
         point = {row[1]: (int(row[3]), int(row[4])) for row in atoms}
         mean = [[0, 0] for _ in self.service]
         for row in rows:
@@ -54,13 +54,24 @@ class Plan:
                 for axis in (0, 1):
                     mean[self.unit[row[1]]][axis] += int(row[3]) * point[row[2]][axis]
         for row in atoms:
-            x, y = point[row[1]]
+            weight, x, y = self.calls_for(row, atoms)
             own = self.unit[row[5]]
             order = sorted(
                 range(len(mean)),
-                key=lambda n: (abs(mean[n][0] - 1000 * x) + abs(mean[n][1] - 1000 * y), n != own, n),
+                key=lambda n: (abs(weight * mean[n][0] - 1000 * x) + abs(weight * mean[n][1] - 1000 * y), n != own, n),
             )
             self.groups[row[1]] = [[n] for n in order]
+
+    def calls_for(self, atom, atoms):
+        """How much the calls weigh that an atom's list is made for, and the sums of their points. By `strict` they are
+        those of its district."""
+        if self.settings["rule"] == "modified":
+            return 1, int(atom[3]), int(atom[4])
+        district = [row for row in atoms if row[5] == atom[5]]
+        weights = [int(row[2]) for row in district]
+        if not any(weights):
+            weights = [1] * len(district)
+        return sum(weights), *(sum(weight * int(row[axis]) for weight, row in zip(weights, district)) for axis in (3, 4))
 
     def takers(self, groups, word):
         """The free units of the first group that has one."""

@@ -4,7 +4,7 @@
 The day is played from the rules themselves: before each record the units that are busy and the calls that wait are
 counted over all earlier records (a long day, of more than a thousand records, is played with lists that are kept up to
 date; a short one in both ways, which have to agree). The model's ends are those of the printed method, in Python's whole
-numbers. It shares no code with the crates. The plan has to be one that is accepted, with lists of its own or by `modified`.
+numbers. It shares no code with the crates. The plan has to be one that is accepted.
 """
 import collections
 import csv
@@ -183,8 +183,9 @@ class Model:
         lo, hi = self.of([word >> unit & 1 for word in self.words] + [1], [1] * len(self.weights))
         return MILLION * lo // WHOLE, ceiling(MILLION * hi, WHOLE)
 
-    def dispatch(self, unit, atom):
-        plan, calls, service = self.plan, sum(self.plan.calls), sum(self.plan.service)
+    def taken(self, unit, atom):
+        """The part of the words in which the unit is sent to the atom, by its share among the takers, in units of 2^-62."""
+        plan = self.plan
         shares = []
         for word in self.words:
             takers = plan.takers(plan.lists[atom], word)
@@ -196,12 +197,22 @@ class Model:
         outside = self.sum([all_of - share for share, all_of in zip(shares + [0], among)])
         inside = inside[0] // plan.split, ceiling(inside[1], plan.split)
         outside = outside[0] // plan.split, ceiling(outside[1], plan.split)
-        found = self.part(inside, outside)
-        if self.waits:
-            late = self.of([0] * (len(self.words) - 1) + [1, 1], [1] * len(self.weights))
-            rate = plan.service[unit]
-            found = found[0] + rate * late[0] // service, found[1] + ceiling(rate * late[1], service)
-        lo, hi = (plan.calls[atom] * end for end in found)
+        return self.part(inside, outside)
+
+    def full(self):
+        """The part of the full word and of the calls that wait."""
+        return self.of([0] * (len(self.words) - 1) + [1, 1], [1] * len(self.weights))
+
+    def late(self, unit):
+        """The part of the calls that wait which the unit takes."""
+        if not self.waits:
+            return 0, 0
+        rate, service, full = self.plan.service[unit], sum(self.plan.service), self.full()
+        return rate * full[0] // service, ceiling(rate * full[1], service)
+
+    def dispatch(self, unit, atom):
+        calls, found = sum(self.plan.calls), zip(self.taken(unit, atom), self.late(unit))
+        lo, hi = (self.plan.calls[atom] * sum(ends) for ends in found)
         return min(MILLION * lo // (calls * WHOLE), MILLION), min(ceiling(MILLION * hi, calls * WHOLE), MILLION)
 
 

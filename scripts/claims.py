@@ -1,5 +1,5 @@
 #!/usr/bin/env python3
-"""Checks that what the README says is proved stands in the sources.
+"""Checks that what docs/proofs.md says is proved stands in the sources.
 
 Each row of its table 'What is proved' ends with the calls that carry the promise, each with the clauses it means in
 brackets, as `enclose` (`exact`, `solvable`). A call has to be a public function of one of the row's crates, and has to
@@ -10,6 +10,7 @@ import re
 import sys
 
 TOP = pathlib.Path(__file__).resolve().parent.parent
+PAGE = "docs/proofs.md"
 CARRIER = re.compile(r"`([A-Za-z_][\w:]*)`(?: \((`\w+`(?:, `\w+`)*)\))?")
 FUNCTION = re.compile(r"^( *)(pub )?(?:final )?fn (\w+)", re.MULTILINE)
 TYPE = re.compile(r"^pub (?:struct|enum|trait) (\w+)", re.MULTILINE)
@@ -45,16 +46,16 @@ def calls_of(crate):
     return calls
 
 
-def rows_of(readme):
-    table = readme.split("## What is proved", 1)[1].split("\n## ", 1)[0]
+def rows_of(page):
+    table = page.split("## What is proved", 1)[1].split("\n## ", 1)[0]
     rows = [[cell.strip() for cell in row.strip("|").split(" | ")] for row in table.splitlines() if row.startswith("| `")]
     if not rows:
-        sys.exit("README.md: the table of what is proved has no row")
+        sys.exit(f"{PAGE}: the table of what is proved has no row")
     return rows
 
 
 def faults():
-    for row in rows_of((TOP / "README.md").read_text()):
+    for row in rows_of((TOP / PAGE).read_text()):
         if len(row) != 3:
             yield f"a row has not three cells: {row[0]}"
             continue
@@ -78,5 +79,6 @@ def faults():
 
 if __name__ == "__main__":
     wrong = list(faults())
-    print("\n".join(f"README.md: {fault}" for fault in wrong) or "README.md: each call and clause of the table stands in the sources")
+    good = "each call and clause of the table stands in the sources"
+    print("\n".join(f"{PAGE}: {fault}" for fault in wrong or [good]))
     sys.exit(bool(wrong))

@@ -179,6 +179,8 @@ def try_out(words):
     told = done.stderr.decode(errors="replace")
     ended = re.findall(r"^run=\S+ status=(\d+)", told, re.MULTILINE)
     if ended:
+        # What the program says stands in front of the lines of rt.
+        sys.stderr.write(re.split(r"^interpreter: ", told, maxsplit=1, flags=re.MULTILINE)[0])
         return int(ended[-1])
     sys.stderr.write(told)
     return FAILED

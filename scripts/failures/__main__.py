@@ -22,7 +22,7 @@ import tempfile
 import threading
 from typing import Callable
 
-from tables import FILES, MEMORY_RUNS, PLACES, READING_RUNS, TEXTS, THREAD_RUNS, WRITING_RUNS
+from tables import FILES, FRONTS, MEMORY_RUNS, PLACES, READING_RUNS, TEXTS, THREAD_RUNS, WRITING_RUNS
 from world import End, World
 
 # How many runs of a part have to have had a call that failed.
@@ -77,12 +77,17 @@ def good_run(world, line):
     return good
 
 
+def is_shared(line):
+    """Whether workers share a run, so that the numbers of its allocations may change from run to run."""
+    return "--workers" in line or line.startswith("sweep")
+
+
 def hostile_texts(world):
     """Long texts that are refused, each within its memory and 1 MB of stack."""
     for text in TEXTS:
         world.write(text)
-        command = "compare" if text.name.endswith(".toml") else "solve"
-        yield Try(f"{text.name}, within {text.megabytes} MB", [command, text.name], refused_within(text),
+        front = FRONTS[pathlib.Path(text.name).suffix]
+        yield Try(f"{text.name}, within {text.megabytes} MB", [*front, text.name], refused_within(text),
                   output="pipe, with a stack of 1 MB")
 
 
@@ -100,7 +105,7 @@ def odd_places(world):
 
 
 def failed_reads(world):
-    """Opens and reads that fail. A file that vanishes between two opens is one that the later open does not find."""
+    """Opens and reads that fail. The later of two opens may find nothing. What fails of the system's own files changes nothing."""
     for line in READING_RUNS:
         good, words = good_run(world, line), line.split()
         yield Try(f"{line}: a byte at a time", words, whole(good), "read 0 0 0 1", marks=True)
@@ -109,6 +114,10 @@ def failed_reads(world):
                                   (errno.ENOMEM, "no memory")):
                 yield Try(f"{line}: open {number} fails by {errno.errorcode[error]}", words, exactly(status),
                           f"open {number} {number} {error} 0", marks=True)
+        for number in evenly(world.calls(line, "system"), 20):
+            for error in (errno.ENOENT, errno.EACCES, errno.ENOMEM):
+                yield Try(f"{line}: open {number} of the system's files fails by {errno.errorcode[error]}", words, whole(good),
+                          f"system {number} {number} {error} 0", marks=True)
         for most in (0, 10):
             for number in evenly(world.calls(line, "read", most), 100):
                 yield Try(f"{line}: read {number} fails, of {most or 'all'} bytes", words, exactly("unread"),
@@ -130,14 +139,12 @@ def failed_writes(world):
 
 def refused_threads(world):
     """Threads that cannot be started, each on its own and together with all later ones: the bytes are the same."""
-    for line in THREAD_RUNS:
+    for line, asked in THREAD_RUNS:
         good = good_run(world, line)
-        for workers in (2, 4, 16):
-            asked = f"{line} --workers {workers}"
-            for number in evenly(world.calls(asked, "thread"), 24):
-                for last, more in ONE_OR_ALL_LATER:
-                    yield Try(f"{asked}: no thread {number}{more}", asked.split(), whole(good),
-                              f"thread {number} {max(number, last)} {errno.EAGAIN} 0")
+        for number in evenly(world.calls(asked, "thread"), 24):
+            for last, more in ONE_OR_ALL_LATER:
+                yield Try(f"{asked}: no thread {number}{more}", asked.split(), whole(good),
+                          f"thread {number} {max(number, last)} {errno.EAGAIN} 0")
 
 
 def refused_memory(world):
@@ -149,7 +156,7 @@ def refused_memory(world):
         for number in numbers:
             for last, more in ONE_OR_ALL_LATER:
                 yield Try(f"{line}: no allocation {number}{more}", line.split(), whole_or_nothing(good),
-                          f"memory {number} {max(number, last)} {errno.ENOMEM} 0", marks="--workers" not in line)
+                          f"memory {number} {max(number, last)} {errno.ENOMEM} 0", marks=not is_shared(line))
 
 
 PARTS = {"texts": hostile_texts, "places": odd_places, "reading": failed_reads, "writing": failed_writes,

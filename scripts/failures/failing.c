@@ -1,11 +1,13 @@
 /* Loaded in front of the C library by LD_PRELOAD: counts the calls of one kind, and fails those of some numbers.
 
-   FAILING in the environment has six words: KIND (memory, open, read, write or thread), FIRST and LAST (the numbers of the calls
-   that fail, from 1 on), ERROR (the number of the error that they report), MARK (a file descriptor) and MOST (how many bytes a read
-   or a write may move at a time; 0 for no limit). Each call that fails appends a byte to MARK, so that whoever began the program
-   knows of it, though the program ends by _exit. If FIRST is 0 no call fails, and each call of the kind appends its byte.
+   FAILING in the environment has six words: KIND (memory, open, system, read, write or thread), FIRST and LAST (the numbers of
+   the calls that fail, from 1 on), ERROR (the number of the error that they report), MARK (a file descriptor) and MOST (how many
+   bytes a read or a write may move at a time; 0 for no limit). Each call that fails appends a byte to MARK, so that whoever began
+   the program knows of it, though the program ends by _exit. If FIRST is 0 no call fails, and each call of the kind appends its
+   byte.
 
-   Calls are counted from the start of the program's own code on; what the loader does before that is not. */
+   Calls are counted from the start of the program's own code on; what the loader does before that is not. The system's own files,
+   below /proc and /sys, are opened by calls of the kind system, and what is read of them is not counted. */
 #define _GNU_SOURCE
 #include <dlfcn.h>
 #include <errno.h>
@@ -29,7 +31,7 @@ typedef int starter(pthread_t *, const pthread_attr_t *, void *(*)(void *), void
 
 static char kind[16];
 static unsigned long first, last, calls;
-static int error, mark = -1;
+static int error, mark = -1, system_file = -1;
 static size_t most;
 static starter *start_thread;
 
@@ -94,7 +96,15 @@ int posix_memalign(void **to, size_t align, size_t size) {
 }
 
 static int open_in(int folder, const char *path, int flags, mode_t mode) {
-    return fails("open") ? -1 : (int)syscall(SYS_openat, folder, path, flags, mode);
+    int is_system = strncmp(path, "/proc/", 6) == 0 || strncmp(path, "/sys/", 5) == 0, file;
+    if (fails(is_system ? "system" : "open"))
+        return -1;
+    file = (int)syscall(SYS_openat, folder, path, flags, mode);
+    if (is_system)
+        system_file = file;
+    else if (file == system_file)
+        system_file = -1;
+    return file;
 }
 
 /* The mode, which is there only if a file may be made. */
@@ -126,10 +136,15 @@ int openat(int folder, const char *path, int flags, ...) {
 }
 
 ssize_t read(int from, void *to, size_t count) {
+    if (from == system_file)
+        return syscall(SYS_read, from, to, count);
     return fails("read") ? moved() : syscall(SYS_read, from, to, at_most(count));
 }
 
+/* What is said on standard error is not what the run writes. */
 ssize_t write(int to, const void *from, size_t count) {
+    if (to == STDERR_FILENO)
+        return syscall(SYS_write, to, from, count);
     return fails("write") ? moved() : syscall(SYS_write, to, from, at_most(count));
 }
 

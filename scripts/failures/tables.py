@@ -8,7 +8,17 @@ MEGABYTES_OF_ONE_ROW = 140
 MEGABYTES_OF_A_STUDY = 140
 
 USAGE = (b"usage: hypercube solve FILE | compare STUDY | make UNITS NUMBER | finite FILE PLACES | pairs FILE PERCENT"
-         b" [--width W] [--time-width W] [--workers N] [--summary]\n")
+         b" | sweep FILE UNIT MEASURE | replay FILE DAY [--width W] [--time-width W] [--workers N] [--summary]\n")
+
+
+def street(atoms):
+    """A plan of two units and so many atoms along a street."""
+    places = range(1, atoms + 1)
+    rows = ["rule,modified", "unit,A,9", "unit,B,9", "at,A,Z1,1000", "at,B,Z1,1000"]
+    rows += [f"atom,Z{place},1,{place},0,A" for place in places]
+    rows += [f"travel,Z{start},Z{end},{9 * abs(start - end)}" for start in places for end in places]
+    return "\n".join(rows) + "\n"
+
 
 FILES = {
     "one.csv": "unit,A,2\natom,P,1,0,0,A\ntravel,P,P,300\nat,A,P,1000\nprefer,P,A\n",
@@ -18,7 +28,10 @@ FILES = {
     "wide.csv": "unit,A,300000\nunit,B,300000\nunit,C,300000\natom,P,1,0,0,A\ntravel,P,P,300\nat,A,P,1000\nat,B,P,1000\n"
                 "at,C,P,1000\nprefer,P,A,B,C\n",
     "group.csv": "version,2\nunit,A,3\nunit,B,3\natom,P,1,0,0,A\ntravel,P,P,60\nat,A,P,1000\nat,B,P,1000\ngroup,P,A,B\n",
+    "street.csv": street(20),
     "wrong.csv": "Unit,A,2\n",
+    "day.csv": "call,0,P\ncall,10,P\ncall,20,Q\nfree,30,A\ncall,40,Q\nfree,50,B\n",
+    "idle.csv": "free,5,A\n",
     "both.toml": 'plans = ["two.csv", "one.csv"]\nmeasures = ["loss"]\n',
     "twice.toml": 'plans = ["two.csv", "two.csv"]\nmeasures = ["loss"]\n',
     "gone.toml": 'plans = ["two.csv", "gone.csv"]\nmeasures = ["loss"]\n',
@@ -39,18 +52,29 @@ MEMORY_RUNS = (
     ("finite queue.csv 1", 400),
     ("pairs two.csv 50", 2000),
     ("pairs group.csv 50", 400),
+    ("sweep two.csv C travel", 400),
+    ("replay two.csv day.csv", 2000),
+    ("replay two.csv idle.csv", 400),
     ("make 10 7", 400),
     (f"compare {STUDY}", 400),
     ("solve two.csv --workers 4", 400),
     (f"solve {EIGHT} --workers 4", 400),
     ("compare both.toml --workers 2", 400),
+    ("sweep two.csv B travel", 2000),
+    ("sweep street.csv B travel", 400),
     ("", 400),
 )
 READING_RUNS = ("solve two.csv", "solve queue.csv", "compare both.toml", "compare twice.toml", f"compare {STUDY}",
-                "finite two.csv 2", "pairs two.csv 50")
-WRITING_RUNS = ("solve two.csv", "compare both.toml", "make 2 7", "finite two.csv 2", "pairs two.csv 50", "solve wrong.csv",
-                "solve wide.csv --time-width 2", "")
-THREAD_RUNS = ("solve two.csv", f"solve {EIGHT}", "compare both.toml", f"compare {STUDY}")
+                "finite two.csv 2", "pairs two.csv 50", "sweep two.csv B travel", "replay two.csv day.csv")
+WRITING_RUNS = ("solve two.csv", "compare both.toml", "make 2 7", "finite two.csv 2", "pairs two.csv 50",
+                "sweep two.csv B travel", "replay two.csv day.csv", "solve wrong.csv", "solve wide.csv --time-width 2", "")
+# A run by one worker, and a run that has to write the same with threads. A sweep has as many as there are processors.
+THREAD_RUNS = (
+    *((line, f"{line} --workers {workers}")
+      for line in ("solve two.csv", f"solve {EIGHT}", "compare both.toml", f"compare {STUDY}") for workers in (2, 4, 16)),
+    ("sweep two.csv B travel", "sweep two.csv B travel"),
+    ("sweep street.csv B travel", "sweep street.csv B travel"),
+)
 
 # Words, how the run ends, and what it writes.
 PLACES = (
@@ -78,12 +102,27 @@ PLACES = (
     (["pairs", "queue.csv", "1"], "refused", b"refused,1,82\n"),
     (["pairs", "group.csv", "1"], "refused", b"refused,1,84,1\n"),
     (["pairs", "/dev/zero", "1"], "refused", b"refused,1,2,4194305\n"),
+    (["sweep", "folder", "A", "loss"], "unread", b""),
+    (["sweep", "gone.csv", "A", "loss"], "absent", b""),
+    (["sweep", "two.csv", "C", "loss"], "refused", b"refused,1,85\n"),
+    (["sweep", "/dev/zero", "A", "loss"], "refused", b"refused,1,2,4194305\n"),
+    (["replay", "folder", "day.csv"], "unread", b""),
+    (["replay", "gone.csv", "day.csv"], "absent", b""),
+    (["replay", "two.csv", "folder"], "unread", b""),
+    (["replay", "two.csv", "gone.csv"], "absent", b""),
+    (["replay", "wrong.csv", "gone.csv"], "refused", b"refused,1,3,1\n"),
+    (["replay", "two.csv", "two.csv"], "refused", b"refused,2,92,1\n"),
+    (["replay", "two.csv", "idle.csv"], "refused", b"refused,2,95,1\n"),
+    (["replay", "two.csv", "/dev/zero"], "refused", b"refused,2,90,4194305\n"),
     ([b"\xff"], "usage", USAGE),
     (["solve", b"two\xff.csv"], "usage", USAGE),
     (["solve", "two.csv", b"--workers=\xff"], "usage", USAGE),
     (["make", "2", b"\xff"], "usage", USAGE),
     (["finite", "two.csv", b"\xff"], "usage", USAGE),
     (["pairs", "two.csv", b"\xff"], "usage", USAGE),
+    (["sweep", "two.csv", b"\xff", "loss"], "usage", USAGE),
+    (["sweep", "two.csv", "A" * 33, "loss"], "usage", USAGE),
+    (["replay", "two.csv", b"\xff"], "usage", USAGE),
 )
 
 
@@ -99,6 +138,8 @@ class Text:
     megabytes: int = MEGABYTES
 
 
+# The words before a long text, by the ending of its name.
+FRONTS = {".csv": ["solve"], ".toml": ["compare"], ".day": ["replay", "two.csv"]}
 TEXTS = (
     Text("lines of one letter.csv", b"refused,1,3,1\n", b"a\n"),
     Text("lines of one comma.csv", b"refused,1,7,50001\n", b",\n"),
@@ -120,6 +161,13 @@ TEXTS = (
     Text("one row of commas.csv", b"refused,1,15\n", b",", megabytes=MEGABYTES_OF_ONE_ROW),
     Text("one row of letters.csv", b"refused,1,4,1\n", b",a", front=b"unit", end=b"\n", megabytes=MEGABYTES_OF_ONE_ROW),
     Text("a byte too many.csv", b"refused,1,2,4194305\n", b"a", size=MOST_BYTES + 1),
+    Text("a byte too many.day", b"refused,2,90,4194305\n", b"a", size=MOST_BYTES + 1),
+    Text("lines of one comma.day", b"refused,2,91,50001\n", b",\n"),
+    Text("lines of one letter.day", b"refused,2,92,1\n", b"a\n"),
+    Text("calls.day", b"refused,2,91,50001\n", b"call,0,P\n"),
+    Text("calls from nowhere.day", b"refused,2,93,1\n", b"a", front=b"call,0,", end=b"\n"),
+    Text("one row of letters.day", b"refused,2,92,1\n", b",a", front=b"call", end=b"\n", megabytes=MEGABYTES_OF_ONE_ROW),
+    Text("an open quote.day", b"refused,2,92,1\n", b"a\n", front=b'"'),
     Text("a byte too many.toml", b"refused,0,63,4194305\n", b"#", size=MOST_BYTES + 1),
     Text("comments.toml", b"refused,0,60\n", b"#\n"),
     Text("open brackets.toml", b"refused,0,60\n", b"[", front=b"plans = "),

@@ -13,6 +13,9 @@ import time
 HERE = pathlib.Path(__file__).resolve().parent
 TOP = HERE.parent.parent
 SECONDS = 60
+NO_MEMORY = b"hypercube: there was not enough memory"
+# A message, or the help that was asked for.
+MESSAGES = (b"hypercube", b"Write hypercube")
 
 
 @dataclasses.dataclass(frozen=True)
@@ -126,4 +129,15 @@ def watched(process):
     for pipe in filter(None, (process.stdout, process.stderr)):
         pipe.close()
     status = f"none after {SECONDS} s" if late.is_set() else process.returncode
-    return f"{status} with {said!r} as its error" if said else status, text, used.ru_maxrss / 1024
+    if not is_message(status, said):
+        status = f"{status} with {said!r} as its error"
+    return status, text, used.ru_maxrss / 1024
+
+
+def is_message(status, said):
+    """Whether a run that ended so may say this. If memory is refused, it may say nothing, but for the lack of memory itself."""
+    if status == 0:
+        return not said
+    if status == 7:
+        return said.startswith(NO_MEMORY)
+    return not said or said.startswith(MESSAGES)
