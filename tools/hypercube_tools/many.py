@@ -10,6 +10,7 @@ The folder of a study holds
 """
 import csv
 import hashlib
+import os
 import pathlib
 import shutil
 import subprocess
@@ -21,13 +22,16 @@ import pandas
 
 from .faults import Fault, Faults
 from .ranks import ranks
-from .texts import COLUMNS, frame_of, values
+from .texts import COLUMNS, Value, frame_of, values
 
 # What a joblog has in a line, and where the number, the status and the signal stand.
 JOB_FIELDS, NUMBER, STATUS, SIGNAL = 9, 0, 6, 7
 # What the program says by its status, and how its text then begins.
 REASONS = {1: ("usage", "usage:"), 2: ("refused", "refused,"), 3: ("too wide", "toowide,"), 4: ("file missing", ""),
            5: ("read failed", ""), 6: ("write failed", ""), 7: ("no memory", "")}
+NO_WHOLE_TEXT = "no whole text"
+# GNU parallel asks SHELL for the shell of a run, also of one on a host, and without one the run ends with status 0 and no text.
+SHELL = {"PARALLEL_SHELL": "/bin/sh"}
 
 
 @dataclass(frozen=True)
@@ -43,8 +47,10 @@ class Study:
     def joblog(self) -> pathlib.Path:
         return self.folder / "joblog"
 
-    def text_of(self, number: int) -> pathlib.Path:
-        return self.folder / "texts" / str(number)
+    def text_of(self, number: int) -> str:
+        """What the program wrote of a plan. It is empty if there is none."""
+        text = self.folder / "texts" / str(number)
+        return text.read_text("utf-8", errors="replace") if text.exists() else ""
 
 
 def run(study: Study) -> pandas.DataFrame:
@@ -96,33 +102,48 @@ def checksum(plan: pathlib.Path) -> str:
 
 def run_rest(study: Study) -> None:
     """GNU parallel goes on after the runs of its joblog, and does again those that failed or were cut off."""
-    mend_joblog(study.joblog)
+    mend_joblog(study)
     shown = ["--bar"] if sys.stderr.isatty() else []
     words = ["parallel", "--null", *shown, "--joblog", str(study.joblog), "--resume-failed",
              "--results", str(study.folder / "texts" / "{#}"), *study.parallel,
              "--quote", *study.program, "{}", *study.options]
     plans = "".join(f"{plan}\0" for plan in study.plans)
-    done = subprocess.run(words, input=plans, text=True, stdout=subprocess.DEVNULL, check=False)
+    done = subprocess.run(words, input=plans, text=True, stdout=subprocess.DEVNULL, env={**os.environ, **SHELL}, check=False)
     if done.returncode > 101 or done.returncode < 0:
         raise Fault(f"GNU parallel ended with status {done.returncode}. The same command goes on from here")
 
 
-def mend_joblog(joblog: pathlib.Path) -> None:
-    """Takes away a last line that an interrupt cut short."""
-    if joblog.exists():
-        text = joblog.read_text()
-        joblog.write_text(text[:text.rfind("\n") + 1])
+def mend_joblog(study: Study) -> None:
+    """Takes away a last line that an interrupt cut short, and the runs with status 0 whose text is not whole, which GNU
+    parallel then does again."""
+    if study.joblog.exists():
+        head, *lines = study.joblog.read_text().split("\n")[:-1] or [""]
+        kept = [line for line in lines if not is_without_text(study, line)]
+        study.joblog.write_text("".join(f"{line}\n" for line in [head, *kept] if line))
 
 
-def endings(joblog: pathlib.Path) -> dict[int, tuple[int, int]]:
-    """The status and the signal of the last run of each number."""
-    rows = [line.split("\t") for line in joblog.read_text().splitlines()[1:]]
+def is_without_text(study: Study, line: str) -> bool:
+    """Whether a line of the joblog is a run that ended well and has left no whole text."""
+    return any(ended == (0, 0) and not solved(study.text_of(number)) for number, ended in endings([line]).items())
+
+
+def endings(lines: Iterable[str]) -> dict[int, tuple[int, int]]:
+    """The status and the signal of the last run of each number, by the lines of a joblog after its first."""
+    rows = [line.split("\t") for line in lines]
     return {int(row[NUMBER]): (int(row[STATUS]), int(row[SIGNAL])) for row in rows if len(row) >= JOB_FIELDS}
+
+
+def solved(text: str) -> list[Value]:
+    """The rows of a report, and none if the text is no whole report."""
+    try:
+        return values(text)
+    except Fault:
+        return []
 
 
 def finish(study: Study) -> pandas.DataFrame:
     """The table of all plans, in their order, and the ranks."""
-    ended = endings(study.joblog)
+    ended = endings(study.joblog.read_text().splitlines()[1:])
     absent = [number for number in range(1, len(study.plans) + 1) if number not in ended]
     if absent:
         raise Fault(f"{len(absent)} plans have not been run. The same command goes on from here")
@@ -140,13 +161,12 @@ def digits(value: float) -> str:
 
 def table_of(study: Study, number: int, plan: pathlib.Path, ended: tuple[int, int]) -> pandas.DataFrame:
     """The rows of a plan, or one row `failed` with the reason."""
-    status, signal = ended
-    text = study.text_of(number).read_text()
-    if status == 0 and signal == 0:
-        rows = frame_of(values(text))
+    text = study.text_of(number)
+    if ended == (0, 0) and (found := solved(text)):
+        rows = frame_of(found)
     else:
         rows = pandas.DataFrame([{**dict.fromkeys(COLUMNS, ""), "measure": "failed", "low": None, "high": None,
-                                  "subject": text.strip(), "word": reason_of(status, signal, text)}])
+                                  "subject": text.partition("\n")[0], "word": reason_of(*ended, text)}])
     rows.insert(0, "plan", str(plan))
     return rows
 
@@ -156,6 +176,8 @@ def reason_of(status: int, signal: int, text: str) -> str:
     reason, front = REASONS.get(status, ("", ""))
     if signal:
         return f"signal {signal}"
+    if status == 0:
+        return NO_WHOLE_TEXT
     return reason if reason and text.startswith(front) else f"status {status}"
 
 

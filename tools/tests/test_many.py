@@ -8,7 +8,7 @@ import time
 import pandas
 import pytest
 from conftest import TOP
-from hypercube_tools.many import endings, mend_joblog, plans_of, reason_of
+from hypercube_tools.many import Study, endings, mend_joblog, plans_of, reason_of
 from hypercube_tools.ranks import ranks
 
 PLANS = 200
@@ -81,6 +81,12 @@ def test_interrupted_and_resumed(tmp_path: pathlib.Path, made: pathlib.Path, pro
     assert runs_in(study) == before
 
 
+def failures(study: pathlib.Path) -> list[list[str]]:
+    """What the table says of each plan that failed: the first row of the text, and the reason."""
+    table = pandas.read_csv(study / "table.csv", keep_default_na=False)
+    return table[table["measure"] == "failed"][["subject", "word"]].values.tolist()
+
+
 def small_study(folder: pathlib.Path) -> pathlib.Path:
     plans = folder / "plans"
     plans.mkdir()
@@ -92,9 +98,7 @@ def small_study(folder: pathlib.Path) -> pathlib.Path:
 def test_plan_that_is_refused(tmp_path: pathlib.Path, program: pathlib.Path) -> None:
     done = subprocess.run(words(small_study(tmp_path), tmp_path / "study", program), capture_output=True, text=True, check=True)
     assert "2 plans, of which 1 failed" in done.stderr
-    table = pandas.read_csv(tmp_path / "study" / "table.csv", keep_default_na=False)
-    failed = table[table["measure"] == "failed"]
-    assert failed[["subject", "word"]].values.tolist() == [["refused,1,16", "refused"]]
+    assert failures(tmp_path / "study") == [["refused,1,16", "refused"]]
 
 
 def test_study_that_was_begun_otherwise(tmp_path: pathlib.Path, program: pathlib.Path) -> None:
@@ -111,26 +115,83 @@ def test_study_that_was_begun_otherwise(tmp_path: pathlib.Path, program: pathlib
 
 
 HOST = """#!/bin/bash
-# In place of ssh: a host that is this machine, with a home of its own.
+# In place of ssh: a host that is this machine, with a home and a folder for temporary files of its own.
 while [[ $1 == -* ]]; do shift; done
 shift
 [[ $1 == -- ]] && shift
-cd "{home}" && HOME={home} exec bash -c "$*"
+cd "{home}" && HOME={home} TMPDIR={temporary} exec bash -c "$*"
 """
 
 
-def test_hosts(tmp_path: pathlib.Path, program: pathlib.Path) -> None:
-    """Plans are sent to a host and taken away there again; one plan is refused, and is not there for lack of a program."""
-    (tmp_path / "home").mkdir()
-    (tmp_path / "ssh").write_text(HOST.format(home=tmp_path / "home"))
-    (tmp_path / "ssh").chmod(0o755)
-    small_study(tmp_path)
-    there = words(pathlib.Path("plans"), pathlib.Path("study"), program, "--hosts", f"1/{tmp_path}/ssh there")
-    subprocess.run(there, check=True, cwd=tmp_path)
-    joblog = tmp_path / "study" / "joblog"
-    assert endings(joblog) == {1: (0, 0), 2: (2, 0)}
-    assert {line.split("\t")[1] for line in joblog.read_text().splitlines()[1:]} == {f"{tmp_path}/ssh there"}
+def study_on_host(folder: pathlib.Path, program: pathlib.Path, temporary: pathlib.Path) -> list[str]:
+    """The words of a small study on a host."""
+    (folder / "home").mkdir()
+    (folder / "ssh").write_text(HOST.format(home=folder / "home", temporary=temporary))
+    (folder / "ssh").chmod(0o755)
+    small_study(folder)
+    return words(pathlib.Path("plans"), pathlib.Path("study"), program, "--hosts", f"1/{folder}/ssh there")
+
+
+@pytest.mark.parametrize("shell", [{"SHELL": "/bin/sh"}, {"SHELL": "/bin/none"}, {}])
+def test_hosts(tmp_path: pathlib.Path, program: pathlib.Path, shell: dict[str, str]) -> None:
+    """Plans are sent to a host and taken away there again, whatever shell is named or if none is; one plan is refused."""
+    bare = {name: value for name, value in os.environ.items() if name not in ("SHELL", "HOME", "TERM", "PARALLEL_SHELL")}
+    there = study_on_host(tmp_path, program, tmp_path)
+    subprocess.run(there, check=True, cwd=tmp_path, env={**bare, **shell}, stdin=subprocess.DEVNULL)
+    lines = (tmp_path / "study" / "joblog").read_text().splitlines()[1:]
+    assert endings(lines) == {1: (0, 0), 2: (2, 0)}
+    assert {line.split("\t")[1] for line in lines} == {f"{tmp_path}/ssh there"}
+    assert failures(tmp_path / "study") == [["refused,1,16", "refused"]]
     assert list((tmp_path / "home").rglob("*.csv")) == []
+
+
+def test_host_that_cannot_write(tmp_path: pathlib.Path, program: pathlib.Path) -> None:
+    """GNU parallel then runs nothing there and ends with status 0. The same command does the runs when the host can write."""
+    there = study_on_host(tmp_path, program, tmp_path / "temporary")
+    subprocess.run(there, check=True, cwd=tmp_path)
+    assert failures(tmp_path / "study") == [["", "no whole text"]] * 2
+    (tmp_path / "temporary").mkdir()
+    subprocess.run(there, check=True, cwd=tmp_path)
+    assert failures(tmp_path / "study") == [["refused,1,16", "refused"]]
+
+
+AT_FIRST = """#!/bin/sh
+# In place of the program: at first it writes what it should not and ends with status 0, and then it solves.
+[ -e "{folder}/tried" ] && exec "{program}" "$@"
+touch "{folder}/tried"
+printf '{text}'
+"""
+
+
+@pytest.mark.parametrize("text, front", [
+    ("", ""),
+    ("Welcome\\nreport,1\\nend\\n", "Welcome"),
+    ("report,1\\nline,zero\\n", "report,1"),
+    ("report,1\\nno row\\nend\\n", "report,1"),
+    ("report,1\\377\\n", "report,1\ufffd"),
+])
+def test_run_without_whole_text(tmp_path: pathlib.Path, program: pathlib.Path, text: str, front: str) -> None:
+    """It is a failed run, which the same command does again, and no other."""
+    small_study(tmp_path)
+    (tmp_path / "program").write_text(AT_FIRST.format(folder=tmp_path, program=program, text=text))
+    (tmp_path / "program").chmod(0o755)
+    arguments = words(tmp_path / "plans" / "good.csv", tmp_path / "study", tmp_path / "program", "--jobs", "1")
+    done = subprocess.run(arguments, capture_output=True, text=True, check=True)
+    assert "1 plans, of which 1 failed" in done.stderr
+    assert failures(tmp_path / "study") == [[front, "no whole text"]]
+    for _ in range(2):
+        done = subprocess.run(arguments, capture_output=True, text=True, check=True)
+        assert "1 plans, of which 0 failed" in done.stderr
+        assert failures(tmp_path / "study") == [] and runs_in(tmp_path / "study") == 1
+
+
+def test_text_that_is_gone(tmp_path: pathlib.Path, program: pathlib.Path) -> None:
+    """The run of a plan whose text was lost is done again."""
+    arguments = words(small_study(tmp_path), tmp_path / "study", program)
+    subprocess.run(arguments, check=True)
+    (tmp_path / "study" / "texts" / "1").unlink()
+    subprocess.run(arguments, check=True)
+    assert failures(tmp_path / "study") == [["refused,1,16", "refused"]]
 
 
 @pytest.mark.parametrize("status, signal, text, reason", [
@@ -139,16 +200,20 @@ def test_hosts(tmp_path: pathlib.Path, program: pathlib.Path) -> None:
     (7, 0, "", "no memory"),
     (127, 0, "", "status 127"),
     (0, 9, "report,1\n", "signal 9"),
+    (0, 0, "", "no whole text"),
 ])
 def test_reason(status: int, signal: int, text: str, reason: str) -> None:
     assert reason_of(status, signal, text) == reason
 
 
 def test_joblog_that_was_cut_short(tmp_path: pathlib.Path) -> None:
-    joblog = tmp_path / "joblog"
-    joblog.write_text("Seq\tHost\n1\t:\t0\t0.1\t0\t9\t0\t0\ta\n2\t:\t0\t0.")
-    mend_joblog(joblog)
-    assert endings(joblog) == {1: (0, 0)}
+    study = Study(tmp_path, [], [], [], [])
+    study.joblog.write_text("Seq\tHost\n1\t:\t0\t0.1\t0\t9\t2\t0\ta\n2\t:\t0\t0.")
+    mend_joblog(study)
+    assert study.joblog.read_text() == "Seq\tHost\n1\t:\t0\t0.1\t0\t9\t2\t0\ta\n"
+    study.joblog.write_text("Seq\tHo")
+    mend_joblog(study)
+    assert study.joblog.read_text() == ""
 
 
 def test_plans_named_twice(tmp_path: pathlib.Path) -> None:
