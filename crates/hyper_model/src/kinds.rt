@@ -1,3 +1,5 @@
+use crate::{Bounded, MOST_LIMITS};
+
 /// What becomes of a call that comes while all units are busy.
 #[derive(Clone, Copy, Debug, PartialEq, Eq)]
 pub enum Line {
@@ -82,3 +84,15 @@ pub struct Enclosed {
     pub measure: Measure,
     pub found: Found,
 }
+
+/// How the weights of a plan's words are found. The measures have the same meaning by either method.
+#[derive(Clone, Copy, Debug, PartialEq, Eq)]
+pub enum Method {
+    /// The words are eliminated one by one (Grassmann, Taksar and Heyman 1985).
+    Elimination,
+    /// The weights are guessed, and the balance equations then show that they enclose every solution.
+    Certificate,
+}
+
+/// Seconds within which a unit has to be at the scene, at most 16 numbers in a row.
+pub type Limits = Bounded<u32, MOST_LIMITS>;

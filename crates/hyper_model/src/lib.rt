@@ -26,7 +26,7 @@ pub use bounded::Bounded;
 pub use descriptions::{measure_named, scale};
 pub use enclosure_list::Enclosures;
 pub use grid::Table;
-pub use kinds::{Enclosed, Found, Line, Measure, Rule, Subject};
+pub use kinds::{Enclosed, Found, Limits, Line, Measure, Method, Rule, Subject};
 pub use laws::{
     law_accepted, law_any_units, law_existence, law_levels, law_positive, law_proportion, law_tail,
 };
@@ -56,6 +56,9 @@ pub const MOST_PERIOD: u32 = 100_000_000;
 
 /// The longest travel, in seconds.
 pub const MOST_TRAVEL: u32 = 100_000;
+
+/// The most numbers of seconds for which one command finds the calls that are reached in time.
+pub const MOST_LIMITS: usize = 16;
 
 /// The thousandths of a unit's free time.
 pub const WHOLE_TIME: u32 = 1000;

@@ -6,7 +6,7 @@ use Rattle.std.proofs.lemmas.Option.{slice_get-map}
 use Rattle.fixed_interval.specs.Ends.{Encloses}
 use Rattle.hyper_model.specs.Grid.{Grid}
 use Rattle.hyper_model.specs.declared.parts.PlanParts.{PlanParts}
-use Rattle.hyper_model.specs.Plans.{units, atoms, service_of, all_service, split, travel, IsAccepted}
+use Rattle.hyper_model.specs.Plans.{atoms, service_of, all_service, split, travel, IsAccepted}
 use Rattle.hyper_model.specs.Solutions.{IsSolution, mass_in}
 use Rattle.hyper_model.specs.Measures.{base, queued_mass, taken_mass}
 use Rattle.dispatch_fractions.specs.PartLists.{AreSizedFor, HasParts, PartList, help_of, taken_by, waiting_on}

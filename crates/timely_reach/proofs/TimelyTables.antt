@@ -1,8 +1,7 @@
 -- The timely table, cell by cell: how it is made in place, and what its cells are.
-use Rattle.std.proofs.Common.{◌≡◌, ◌∙◌, ℕ, zero, suc, ◌+◌, ◌*◌, ◌/◌, ◌%◌, ◌<◌, ◌≤◌, List, length, map, get_or, set, refl, sym, ap, ap₂, inl, inr, arith, get_or-set_same, get_or-set_other, ext_get_or}
+use Rattle.std.proofs.Common.{◌≡◌, ◌∙◌, ℕ, zero, suc, ◌+◌, ◌*◌, ◌<◌, ◌≤◌, List, length, map, get_or, set, refl, sym, ap, inl, inr, arith, get_or-set_same, get_or-set_other, ext_get_or}
 use Rattle.std.proofs.lemmas.Bool.{cases_eq}
 use Rattle.std.proofs.lemmas.List.{get_or-map, length-map, length-set}
-use Rattle.std.proofs.lemmas.Nat.{div-add-mod'}
 use Rattle.hyper_model.specs.Grid.{Grid, IsSized, cell, with_cell}
 use Rattle.hyper_model.proofs.Grids.{place_within}
 use Rattle.timely_reach.specs.TimelyPlans.{timely_seconds, timely_table}

@@ -1,13 +1,11 @@
 -- The mean travel times of the timely plan are a thousand times the shares of the calls that are reached in time.
 use Rattle.std.proofs.Common.{◌≡◌, ◌∙◌, ℕ, ◌+◌, ◌*◌, ◌<◌, Bool, true, false, cond, refl, ap, ap₂, arith}
-use Rattle.std.specs.Prelude.{nat_le}
-use Rattle.hyper_model.specs.Grid.{IsSized, cell}
+use Rattle.hyper_model.specs.Grid.{IsSized}
 use Rattle.hyper_model.specs.declared.parts.PlanParts.{PlanParts}
 use Rattle.hyper_model.specs.Sums.{sum_below}
 use Rattle.hyper_model.specs.Plans.{units, atoms, service_of, calls_of, all_calls, all_service, district_calls, is_inside, located, travel, split, IsAccepted}
 use Rattle.hyper_model.specs.Measures.{mean_travel, queued_mass, taken_mass, travel_among_calls, travel_flow, travel_from_calls, travel_to}
-use Rattle.hyper_model.proofs.Sums.{cond_scaled, sum-same, sum-scaled}
-use Rattle.hyper_model.proofs.TravelTimes.{mean_travel-of_plan}
+use Rattle.hyper_model.proofs.Sums.{sum-same, sum-scaled}
 use Rattle.timely_reach.specs.Reach.{is_timely, timely_calls, timely_flow, timely_pairs, timely_presence, timely_to}
 use Rattle.timely_reach.specs.ReachLaws.{AreTimelyTimes}
 use Rattle.timely_reach.specs.TimelyPlans.{timely_plan}

@@ -1,6 +1,6 @@
 -- One unit, six tenths of its free time at P and four at Q, and trips of a minute within an atom and of five between them. Three
 -- of four calls come from P. Within a minute six of ten calls of P are reached by a unit that was free, and four of Q.
-use Rattle.std.proofs.Common.{◌≡◌, ℕ, zero, suc, List, [], ◌∷◌, true, refl, arith}
+use Rattle.std.proofs.Common.{ℕ, List, [], ◌∷◌, true, refl, arith}
 use Rattle.hyper_model.specs.declared.kinds.Line.{Line}
 use Rattle.hyper_model.specs.declared.kinds.Line.TheVariants as line
 use Rattle.hyper_model.specs.declared.kinds.Rule.TheVariants as rule

@@ -3,5 +3,4 @@ pub mod Reach
 pub mod ReachLaws
 pub mod ReachEnds
 pub mod ReachRows
-pub mod Limits
 pub mod Rows

@@ -1,6 +1,6 @@
 -- The exact ends of the shares, in millionths, made of the parts of a plan's weights. The plan is the timely one: its mean
 -- travel times, in thousandths of a second, are the shares in millionths.
-use Rattle.std.specs.Prelude.{ℕ, ◌-◌, ◌*◌, ◌^◌, None, Some}
+use Rattle.std.specs.Prelude.{◌-◌, ◌*◌, ◌^◌, None, Some}
 use Rattle.fixed_interval.specs.Ends.{Ends, between, exact_ends, outward_ends, quotient_ends, times_part_ends}
 use Rattle.hyper_model.specs.declared.kinds.Line.{Line}
 use Rattle.hyper_model.specs.declared.kinds.Line.TheVariants as line

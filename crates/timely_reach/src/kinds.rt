@@ -1,5 +1,7 @@
-use crate::{MOST_LIMITS, MOST_REACH_ROWS};
-use hyper_model::{Bounded, Plan, Value};
+use crate::MOST_REACH_ROWS;
+use hyper_model::{Bounded, MOST_LIMITS, Plan, Value};
+use std::marker::Model;
+use travel_measures::TravelTotals;
 
 /// A share of calls that are reached in time. Units and atoms are counted from 0.
 #[derive(Clone, Copy, Debug, PartialEq, Eq)]
@@ -18,9 +20,6 @@ pub enum ReachMeasure {
     District(u8),
 }
 
-/// The seconds within which a unit has to be at the scene, at most 16 numbers in a row.
-pub type Limits = Bounded<u32, MOST_LIMITS>;
-
 /// A share with the low and the high end that were found of it for each limit, in millionths. There are none for a district
 /// that no call comes from.
 #[derive(Debug, Drop)]
@@ -32,5 +31,23 @@ pub struct ReachRow {
 /// What was found of all shares of a plan, in the order in which they are printed.
 pub type ReachRows = Bounded<ReachRow, MOST_REACH_ROWS>;
 
+/// The timely plan of a limit, with what all its mean travel times have in common. Contracts see the plan.
+#[derive(Drop)]
+pub(crate) struct TimelyPlan {
+    pub plan: Plan,
+    pub totals: TravelTotals,
+}
+
+impl Model for TimelyPlan {
+    ghost use Rattle.hyper_model.specs.declared.parts.PlanParts.{PlanParts};
+    ghost use Rattle.travel_measures.specs.Totals.{AreTravelTotals};
+
+    ghost Value = { PlanParts };
+
+    ghost view = { λ a. a.plan };
+
+    ghost invariant = { λ a. AreTravelTotals a.plan a.totals };
+}
+
 /// The timely plan of each limit.
-pub(crate) type TimelyPlans = Bounded<Plan, MOST_LIMITS>;
+pub(crate) type TimelyPlans = Bounded<TimelyPlan, MOST_LIMITS>;

@@ -1,10 +1,10 @@
 //! What holds of the shares of calls that are reached in time. The calls answer nothing: each one's contract is a theorem.
-ghost use Rattle.std.specs.Prelude.{◌≡◌, ℕ, ◌<◌, ◌≤◌, All, List, false};
+ghost use Rattle.std.specs.Prelude.{◌≡◌, ℕ, ◌<◌, ◌≤◌, All, List};
 ghost use Rattle.hyper_model.specs.declared.TheConstants.{MOST_TRAVEL};
 ghost use Rattle.hyper_model.specs.Plans.{atoms, travel};
 ghost use Rattle.hyper_model.specs.Solutions.{IsSolution, mass_in};
-ghost use Rattle.timely_reach.specs.Reach.{ContainsReach, IsReachInRange, IsReachRow, has_no_calls, reached_of};
-ghost use Rattle.timely_reach.specs.ReachLaws.{AreTimelyTimes, IsAtMost, IsWhole};
+ghost use Rattle.timely_reach.specs.Reach.{ContainsReach, IsReachInRange, IsReachRow, reached_of};
+ghost use Rattle.timely_reach.specs.ReachLaws.{AreTimelyTimes, HavePositiveReachDenominators, IsAtMost, IsWhole};
 ghost use Rattle.timely_reach.specs.ReachRows.{IsReachOf};
 ghost use Rattle.timely_reach.specs.declared.kinds.ReachMeasure.{ReachMeasure};
 ghost use Rattle.timely_reach.specs.declared.kinds.ReachRow.{ReachRow};
@@ -23,9 +23,7 @@ pub fn law_reached(plan: &Plan)
     ensures none { (x : ℕ → ℕ) (z limit : ℕ)
         → ((k j : ℕ) → k < atoms plan.now → j < atoms plan.now → limit < travel plan.now k j)
         → (m : ReachMeasure) → IsReachInRange plan.now m → (reached_of plan.now x z limit m).numerator ≡ 0 }
-    ensures positive { (xs : List ℕ) (z : ℕ) → IsSolution plan.now xs z → (limit : ℕ) (m : ReachMeasure)
-        → IsReachInRange plan.now m → has_no_calls plan.now m ≡ false
-        → 0 < (reached_of plan.now (mass_in xs) z limit m).denominator }
+    ensures positive { HavePositiveReachDenominators plan.now }
 {
     law_accepted(plan);
     let _places = plan.travel_table().cols();

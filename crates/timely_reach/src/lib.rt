@@ -7,21 +7,16 @@
 
 mod kinds;
 mod laws;
-mod limits;
 mod reaching;
 mod rows;
 mod shares;
 mod text;
 mod timely;
 
-pub use kinds::{Limits, ReachMeasure, ReachRow, ReachRows};
+pub use kinds::{ReachMeasure, ReachRow, ReachRows};
 pub use laws::{law_reach, law_reached};
-pub use limits::limits_of;
 pub use reaching::{reach, reach_with};
 pub use text::reach_text;
-
-/// The most limits of one answer.
-pub const MOST_LIMITS: usize = 16;
 
 /// The most rows of an answer: of the region three, and one for each atom, each unit and each district.
 pub const MOST_REACH_ROWS: usize = 3 + 200 + 2 * 12;

@@ -5,11 +5,11 @@ ghost use Rattle.timely_reach.specs.Reach.{ContainsReach, IsReachRow};
 ghost use Rattle.timely_reach.specs.ReachRows.{IsReachOf};
 ghost use Rattle.timely_reach.specs.declared.kinds.ReachRow.{ReachRow};
 
+use crate::ReachRows;
 use crate::rows::all_rows;
 use crate::timely::timely_plans;
-use crate::{Limits, ReachRows};
 use dispatch_fractions::Parts;
-use hyper_model::{Plan, law_existence};
+use hyper_model::{Limits, Plan, law_existence};
 use plan_solver::{Solver, Weighed};
 use rate_matrix::Gate;
 use std::alloc::{AllocError, Global};

@@ -7,9 +7,9 @@ ghost use Rattle.timely_reach.specs.ReachRows.{AreReady, row_of, rows_from, shar
 
 use crate::kinds::TimelyPlans;
 use crate::shares::share_of;
-use crate::{MOST_LIMITS, ReachMeasure, ReachRow, ReachRows};
+use crate::{ReachMeasure, ReachRow, ReachRows};
 use dispatch_fractions::{Parts, calls_inside};
-use hyper_model::{Bounded, Plan, Value, law_accepted};
+use hyper_model::{Bounded, MOST_LIMITS, Plan, Value, law_accepted};
 use std::alloc::{AllocError, Global};
 
 /// All rows, of the timely plan of each limit.

@@ -5,8 +5,8 @@ ghost use Rattle.hyper_model.specs.Plans.{unit_name, units};
 ghost use Rattle.timely_reach.specs.Reach.{IsReachInRange, IsReachRow};
 ghost use Rattle.timely_reach.specs.Rows.{limits_row, reach_bytes, reach_label, reach_row, share_field, share_fields};
 
-use crate::{Limits, MOST_LIMITS, ReachMeasure, ReachRow, ReachRows};
-use hyper_model::{Bounded, Plan, Value};
+use crate::{ReachMeasure, ReachRow, ReachRows};
+use hyper_model::{Bounded, Limits, MOST_LIMITS, Plan, Value};
 use std::alloc::{AllocError, Global};
 use text_lines::{push_count, push_ends, push_number_field, push_text_field};
 

@@ -2,10 +2,10 @@ ghost use Rattle.std.specs.Prelude.{◌≡◌, IfOk};
 ghost use Rattle.timely_reach.specs.TimelyPlans as spec;
 ghost use Rattle.timely_reach.specs.ReachRows as rows;
 
-use crate::Limits;
-use crate::kinds::TimelyPlans;
-use hyper_model::{Plan, PlanParts, Table};
+use crate::kinds::{TimelyPlan, TimelyPlans};
+use hyper_model::{Limits, Plan, PlanParts, Table};
 use std::alloc::{AllocError, Global};
+use travel_measures::TravelTotals;
 
 /// The timely plan of each limit.
 pub(crate) fn timely_plans(
@@ -23,13 +23,15 @@ pub(crate) fn timely_plans(
 }
 
 /// The plan whose trips take 1000 seconds if they are timely, and else none.
-fn timely_plan(alloc: Global, plan: &Plan, limit: u32) -> Result<Plan, AllocError>
+fn timely_plan(alloc: Global, plan: &Plan, limit: u32) -> Result<TimelyPlan, AllocError>
     ensures { IfOk result (λ timely. timely ≡ spec.timely_plan plan.now limit) }
 {
     let parts = plan.parts();
     let travel = timely_table(alloc, &parts.travel, limit)?;
     let timely = parts_with(alloc, parts, travel)?;
-    Ok(Plan::of_accepted(timely))
+    let plan = Plan::of_accepted(timely);
+    let totals = TravelTotals::of(&plan);
+    Ok(TimelyPlan { plan, totals })
 }
 
 /// These parts once more, but with these travel times.

@@ -1,1 +1,2 @@
 pub mod TravelEnds
+pub mod Totals

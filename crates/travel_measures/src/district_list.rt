@@ -1,9 +1,11 @@
 ghost use Rattle.std.specs.Prelude.{◌≡◌, ◌<◌, All, IfOk};
-ghost use Rattle.hyper_model.specs.Plans.{IsAccepted, all_calls, units};
+ghost use Rattle.hyper_model.specs.Plans.{IsAccepted, units};
 ghost use Rattle.hyper_model.specs.Enclosures.{IsOrderedEnclosed, IsOrderedFound};
 ghost use Rattle.dispatch_fractions.specs.PartLists.{AreSizedFor};
 ghost use Rattle.travel_measures.specs.TravelEnds.{district_time, district_times_of};
+ghost use Rattle.travel_measures.specs.Totals.{AreTravelTotals};
 
+use crate::TravelTotals;
 use crate::means::mean_time;
 use dispatch_fractions::{Parts, calls_inside};
 use hyper_model::{Enclosed, Found, Measure, Plan, law_accepted, push_each};
@@ -22,33 +24,33 @@ pub fn district_times(
     ensures ordered { IfOk result (λ found. All IsOrderedEnclosed found.items) }
 {
     law_accepted(plan);
-    let calls = plan.calls();
+    let totals = TravelTotals::of(plan);
     let mut found = Vec::new(alloc);
     push_each(&mut found, plan.units(), |unit| {
-        district_time(plan, parts, calls, unit as u8)
+        district_time(plan, parts, totals, unit as u8)
     })?;
     Ok(found)
 }
 
-/// That of one unit's district, if `all` is the rate of all calls.
-pub fn district_time(plan: &Plan, parts: &Parts, all: u32, unit: u8) -> Enclosed
+/// That of one unit's district.
+pub fn district_time(plan: &Plan, parts: &Parts, totals: TravelTotals, unit: u8) -> Enclosed
     requires accepted { IsAccepted plan.now }
     requires sized { AreSizedFor plan.now parts.now }
-    requires all { all ≡ all_calls plan.now }
+    requires totals { AreTravelTotals plan.now totals }
     requires unit { unit < units plan.now }
     ensures exact { result ≡ district_time plan.now parts.now unit }
     ensures ordered { IsOrderedEnclosed result }
 {
     Enclosed {
         measure: Measure::TravelDistrict(unit),
-        found: time_in(plan, parts, all, usize::from(unit)),
+        found: time_in(plan, parts, totals, usize::from(unit)),
     }
 }
 
-fn time_in(plan: &Plan, parts: &Parts, all: u32, unit: usize) -> Found
+fn time_in(plan: &Plan, parts: &Parts, totals: TravelTotals, unit: usize) -> Found
     requires accepted { IsAccepted plan.now }
     requires sized { AreSizedFor plan.now parts.now }
-    requires all { all ≡ all_calls plan.now }
+    requires totals { AreTravelTotals plan.now totals }
     requires unit { unit < units plan.now }
     ensures exact { result ≡ (district_time plan.now parts.now unit).found }
     ensures ordered { IsOrderedFound result }
@@ -57,5 +59,5 @@ fn time_in(plan: &Plan, parts: &Parts, all: u32, unit: usize) -> Found
     if calls == 0 {
         return Found::Without;
     }
-    mean_time(plan, parts, all, Some(unit), calls)
+    mean_time(plan, parts, totals, Some(unit), calls)
 }

@@ -10,6 +10,7 @@ mod district_list;
 mod laws;
 mod means;
 mod table_sums;
+mod totals;
 mod trips;
 mod unit_list;
 
@@ -17,5 +18,6 @@ pub use atom_list::{atom_time, atom_times};
 pub use district_list::{district_time, district_times};
 pub use laws::law_travel_times;
 pub use means::region_time;
+pub use totals::TravelTotals;
 pub use trips::all_trips;
 pub use unit_list::{unit_time, unit_times};

@@ -1,12 +1,14 @@
 ghost use Rattle.std.specs.Prelude.{◌≡◌, ◌*◌, ◌≤◌, None};
 ghost use Rattle.hyper_model.specs.declared.TheConstants.{MOST_ATOMS, MOST_RATE};
-ghost use Rattle.hyper_model.specs.Plans.{IsAccepted, all_calls};
+ghost use Rattle.hyper_model.specs.Plans.{IsAccepted};
 ghost use Rattle.hyper_model.specs.Enclosures.{IsOrderedEnclosed, IsOrderedFound};
 ghost use Rattle.busy_words.specs.MeasureEnds.{found_ends};
 ghost use Rattle.dispatch_fractions.specs.PartLists.{AreSizedFor};
 ghost use Rattle.travel_measures.specs.TravelEnds.{mean_ends, region_time_of};
+ghost use Rattle.travel_measures.specs.Totals.{AreTravelTotals};
 
-use crate::table_sums::{late_travel, longest_mean};
+use crate::TravelTotals;
+use crate::table_sums::late_travel;
 use crate::trips::{all_trips, product};
 use dispatch_fractions::{Parts, found_of};
 use fixed_interval::Wide;
@@ -19,10 +21,10 @@ pub fn region_time(plan: &Plan, parts: &Parts) -> Enclosed
     ensures ordered { IsOrderedEnclosed result }
 {
     law_accepted(plan);
-    let calls = plan.calls();
+    let totals = TravelTotals::of(plan);
     Enclosed {
         measure: Measure::Travel,
-        found: mean_time(plan, parts, calls, None, u64::from(calls)),
+        found: mean_time(plan, parts, totals, None, u64::from(totals.calls)),
     }
 }
 
@@ -30,20 +32,23 @@ pub fn region_time(plan: &Plan, parts: &Parts) -> Enclosed
 pub(crate) fn mean_time(
     plan: &Plan,
     parts: &Parts,
-    all: u32,
+    totals: TravelTotals,
     district: Option<usize>,
     calls: u64,
 ) -> Found
     requires accepted { IsAccepted plan.now }
     requires sized { AreSizedFor plan.now parts.now }
-    requires all { all ≡ all_calls plan.now }
+    requires totals { AreTravelTotals plan.now totals }
     requires few { calls ≤ MOST_ATOMS * MOST_RATE }
     ensures exact { result ≡ found_ends (mean_ends plan.now parts.now district calls) }
     ensures ordered { IsOrderedFound result }
 {
     let at_once = all_trips(plan, parts, district).scaled(4096);
-    let waited = product(parts.waiting(plan), late_travel(plan, district, all));
+    let waited = product(
+        parts.waiting(plan),
+        late_travel(plan, district, totals.calls),
+    );
     let whole = 4096 * u128::from(calls) * (1 << 62);
-    let longest = u128::from(longest_mean(plan));
+    let longest = u128::from(totals.longest);
     found_of(at_once.plus(waited).over(Wide::new(whole, whole), longest))
 }

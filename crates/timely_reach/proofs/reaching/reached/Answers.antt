@@ -1,4 +1,4 @@
-use Rattle.std.proofs.Common.{◌≡◌, ◌∙◌, ap₂, subst}
+use Rattle.std.proofs.Common.{◌∙◌, ap₂, subst}
 use Rattle.std.proofs.lemmas.Result.{IfOk-weaker}
 use Rattle.hyper_model.specs.Grid.{IsSized}
 use Rattle.plan_solver.proofs.PlanChains.{one_each}

@@ -1,4 +1,4 @@
-use Rattle.std.proofs.Common.{◌≡◌, ◌∙◌, ◌∷◌, [], List, length, sym, ap, subst, arith, length-append, false}
+use Rattle.std.proofs.Common.{◌∙◌, ◌∷◌, [], List, length, sym, ap, subst, arith, length-append}
 use Rattle.hyper_model.specs.declared.values.Value.{Value}
 use Rattle.dispatch_fractions.specs.PartLists.{AreSizedFor}
 use Rattle.timely_reach.specs.Reach.{IsReachInRange, has_no_calls}

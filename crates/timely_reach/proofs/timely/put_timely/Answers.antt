@@ -1,4 +1,4 @@
-use Rattle.std.proofs.Common.{◌≡◌, ◌∙◌, ◌+◌, ◌*◌, ◌/◌, ◌%◌, ◌<◌, sym, ap, ap₂, arith}
+use Rattle.std.proofs.Common.{◌∙◌, ◌+◌, ◌*◌, ◌/◌, ◌%◌, sym, ap, ap₂, arith}
 use Rattle.std.proofs.lemmas.Nat.{div-add-mod', div_below, mod_below}
 use Rattle.timely_reach.proofs.TimelyTables.{some_columns, timely_all, timely_next, timely_none}
 use Rattle.timely_reach.proofs.timely.put_timely.Goals as goal

@@ -1,19 +1,30 @@
 ghost use Rattle.std.specs.Prelude.{◌≡◌, ◌≤◌, IfOk, IfSome, map};
 ghost use Rattle.hyper_model.specs.declared.TheConstants.{MOST_TRAVEL};
-ghost use Rattle.timely_reach.specs.Limits.{limit_in, limits_in, limits_in_fields};
+ghost use Rattle.command_words.specs.Command.{Gives};
+ghost use Rattle.command_words.specs.Limits.{limit_in, limits_in, limits_in_fields};
 
-use crate::{Limits, MOST_LIMITS};
-use hyper_model::MOST_TRAVEL;
+use crate::{LimitList, WordsEnd};
+use hyper_model::{Limits, MOST_LIMITS, MOST_TRAVEL};
 use std::alloc::{AllocError, Global};
 use text_lines::number_of;
 
 /// The most digits of a limit.
 const MOST_LIMIT_DIGITS: usize = 6;
 
-/// The limits that a text says, or `None` if it says none: one number of seconds, or up to 16 with commas between, each greater
-/// than the one before. A number has one to six digits and is at most 100,000.
+/// The limits that a text says: one number of seconds, or up to 16 with commas between, each greater than the one before. A
+/// number has one to six digits and is at most 100,000.
+pub(crate) fn read_limits(alloc: Global, text: &str) -> Result<LimitList, WordsEnd>
+    ensures { Gives (limits_in text.now) result }
+{
+    match limits_of(alloc, text) {
+        Ok(Some(limits)) => Ok(LimitList::of(limits)),
+        Ok(None) => Err(WordsEnd::NoCommand),
+        Err(_) => Err(WordsEnd::NoMemory),
+    }
+}
+
 #[tactic(auto, unfolding(crate::specs::Limits::limits_in))]
-pub fn limits_of(alloc: Global, text: &str) -> Result<Option<Limits>, AllocError>
+fn limits_of(alloc: Global, text: &str) -> Result<Option<Limits>, AllocError>
     ensures { IfOk result (λ limits. limits ≡ limits_in text.now) }
 {
     let fields: Vec<&str> = text.split(',').collect(alloc)?;

@@ -1,7 +1,7 @@
 use Rattle.std.proofs.Common.{◌≡◌, ◌≤◌, ◌++◌, length, map, drop}
 use Rattle.std.specs.Option.{option_map}
-use Rattle.timely_reach.specs.Limits.{limits_from}
-use Rattle.timely_reach.proofs.limits.limits_in_fields.Given as goal
+use Rattle.command_words.specs.Limits.{limits_from}
+use Rattle.command_words.proofs.limits.limits_in_fields.Given as goal
 
 abbrev pub invariant-loop-field : goal.invariant-loop-field
 invariant-loop-field l = record {

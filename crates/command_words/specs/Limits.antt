@@ -4,7 +4,7 @@ use Rattle.std.specs.List.{slice_split}
 use Rattle.std.specs.Option.{option_and_then, option_map}
 use Rattle.hyper_model.specs.declared.TheConstants.{MOST_TRAVEL}
 use Rattle.text_lines.specs.Numbers.{number_in}
-use Rattle.timely_reach.specs.declared.TheConstants.{MOST_LIMITS}
+use Rattle.hyper_model.specs.declared.TheConstants.{MOST_LIMITS}
 
 -- a limit that is at least so great: at most six digits, and at most 100,000 seconds
 abbrev pub limit_in : ℕ → List ℕ → Option ℕ

@@ -4,8 +4,8 @@ use Rattle.std.specs.List.{slice_split}
 use Rattle.std.proofs.lemmas.Iterator.Consumers.{map_from_collect}
 use Rattle.std.proofs.lemmas.Iterator.Splits.{YieldsList-from_str_split}
 use Rattle.std.proofs.lemmas.Result.{IfOk-weaker}
-use Rattle.timely_reach.specs.Limits.{limits_in, limits_in_fields}
-use Rattle.timely_reach.proofs.limits.limits_of.Goals as goal
+use Rattle.command_words.specs.Limits.{limits_in, limits_in_fields}
+use Rattle.command_words.proofs.limits.limits_of.Goals as goal
 
 pub returns : goal.returns
 unfolding limits_in
