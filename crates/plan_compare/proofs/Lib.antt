@@ -9,3 +9,4 @@ pub mod MeasureRows
 pub mod VerdictRows
 pub mod WideValues
 pub mod TrueVerdicts
+pub mod SlotLists

@@ -1,5 +1,5 @@
 -- If the ends of two plans are apart, so are the measures of all their solutions.
-use Rattle.std.proofs.Common.{◌≡◌, ℕ, ◌+◌, ◌<◌, ◌∙◌, sym, ap, refl, subst, arith, Bool, true, false, List, [], ◌∷◌, length, get_or}
+use Rattle.std.proofs.Common.{◌≡◌, ◌+◌, ◌<◌, ◌∙◌, sym, ap, refl, subst, arith, Bool, true, false, List, [], ◌∷◌, length, get_or}
 use Rattle.std.specs.Prelude.{All, if◌then◌else◌, nat_lt, option_map, slice_get}
 use Rattle.std.specs.List.{flat_map, range_with_len}
 use Rattle.std.proofs.lemmas.Bool.Decides.{nat_tests}
@@ -13,7 +13,7 @@ use Rattle.hyper_model.specs.declared.kinds.Measure.{Measure}
 use Rattle.hyper_model.specs.declared.parts.PlanParts.{PlanParts}
 use Rattle.hyper_model.specs.declared.values.Value.{Value}
 use Rattle.hyper_model.proofs.MeasureValues.{region_in_range}
-use Rattle.plan_solver.proofs.RegionValues.{region_below, region_value_contains}
+use Rattle.plan_solver.proofs.RegionValues.{sound_below, sound_value_contains}
 use Rattle.plan_compare.specs.Studies.{StudyParts}
 use Rattle.plan_compare.specs.Truth.{AreTrue, ContainsPlans, IsTrueOf, item_at}
 use Rattle.plan_compare.specs.Values.{list_at, value_at}
@@ -27,7 +27,7 @@ all_contained study found region place p a e xs z s =
     All-map (IsContained p (mass_in xs) z) (item_at found place) study.measures
     (λ k d h. (
       (region_in_range p (get_or study.measures k d) (region k d h)).1,
-      region_value_contains p (get_or study.measures k d) (list_at found place) (region k d h) a e xs z s,
+      sound_value_contains p (get_or study.measures k d) (list_at found place) (region k d h) a e xs z s,
     ))
 
 -- what a verdict of ends says
@@ -64,5 +64,5 @@ all_true study found verdicts region is k c v at_c at_v p q a b e f =
     let of_region = rw (get_or_from_slice_get (all_pairs study) k c c at_c) at (pairs_region study region k c (slice_get_within (all_pairs study) k c at_c)) in
     subst (IsTrueOf c.measure p q) same
     (verdict_true c.measure p q (value_at found c.measure c.first) (value_at found c.measure c.second)
-    (λ apart. region_below p q c.measure (list_at found c.first) (list_at found c.second) of_region a b e f apart)
-    (λ apart. region_below q p c.measure (list_at found c.second) (list_at found c.first) of_region b a f e apart))
+    (λ apart. sound_below p q c.measure (list_at found c.first) (list_at found c.second) of_region a b e f apart)
+    (λ apart. sound_below q p c.measure (list_at found c.second) (list_at found c.first) of_region b a f e apart))

@@ -1,5 +1,6 @@
 pub mod Refusals
 pub mod Documents
+pub mod Solving
 pub mod Studies
 pub mod Values
 pub mod Verdicts

@@ -7,6 +7,7 @@ mod ending;
 mod refusal;
 mod rows;
 mod separating;
+mod slots;
 mod solving;
 mod study;
 mod values;

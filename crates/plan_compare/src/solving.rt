@@ -1,86 +1,66 @@
-ghost use Rattle.std.specs.Prelude.{◌≡◌, ◌+◌, ◌≤◌, ◌<◌, ◌^◌, length, IfOk};
+ghost use Rattle.std.specs.Prelude.{◌≡◌, ◌≤◌, IfOk};
 ghost use Rattle.std.specs.Thread.{IsSync};
-ghost use Rattle.plan_solver.specs.Enclosures.{AreEnclosuresOf};
+ghost use Rattle.plan_compare.specs.Solving.{AreSolvedOf};
+ghost use Rattle.plan_solver.specs.SoundEnclosures.{AreEnclosuresBy};
 
-use hyper_model::{Enclosures, Plan};
-use plan_solver::enclose_with;
+use crate::slots::{Solved, in_order, slots_of};
+use hyper_model::{Enclosures, Method, Plan};
+use plan_solver::enclose_by;
 use rate_matrix::Gate;
 use std::alloc::{AllocError, Global};
-use std::thread::{Threads, join};
+use std::sync::atomic::{AtomicUsize, Ordering};
+use std::thread::{Threads, map_indices};
 
-/// All measures of each plan, in the order of the plans, found by 1 to 16 workers.
+/// All measures of each plan by a method, in the order of the plans, found by 1 to 16 workers.
 ///
-/// The plans are shared out by halves among the workers, and each is solved by one. Each entry that an elimination
-/// changes is computed by the gate, which is given the plan's place, counted from 0. Neither the number of workers nor
-/// the gate has a part in what is found. There is an error only for lack of memory.
+/// Each worker takes the next plan that none has taken, until none is left. Each entry that an elimination changes is
+/// computed by the gate, which is given the plan's place, counted from 0. Neither the number of workers nor the gate has
+/// a part in what is found. There is an error only for lack of memory.
 pub fn enclose_all<R: Threads + Sync, G: Gate + Sync>(
     rt: &R,
     alloc: Global,
     plans: &[Plan],
+    method: Method,
     workers: u32,
     gate: &G,
 ) -> Result<Vec<Enclosures>, AllocError>
     requires some { 1 ≤ workers }
     requires most { workers ≤ 16 }
-    ensures { IfOk result (λ found. AreEnclosuresOf plans.now found.items) }
+    ensures { IfOk result (λ found. AreEnclosuresBy method plans.now found.items) }
 {
-    let _count = plans.len();
-    enclose_from(rt, alloc, plans, workers, gate, 0)
-}
-
-/// The same, of plans whose first has this place among others.
-#[cycle(halves)]
-fn enclose_from<R: Threads + Sync, G: Gate + Sync>(
-    rt: &R,
-    alloc: Global,
-    plans: &[Plan],
-    workers: u32,
-    gate: &G,
-    place: usize,
-) -> Result<Vec<Enclosures>, AllocError>
-    requires some { 1 ≤ workers }
-    requires places { place + length plans.now < 2 ^ 64 }
-    ensures { IfOk result (λ found. AreEnclosuresOf plans.now found.items) }
-{
-    if plans.len() < 2 || workers < 2 {
-        return enclose_in_turn(rt, alloc, plans, gate, place);
-    }
-    let half = plans.len() / 2;
-    let (left, right) = plans.split_at(half);
-    let fewer = workers / 2;
-    let more = workers - fewer;
-    let later = place + half;
-    let (before, after) = join(
+    let next = AtomicUsize::new(0);
+    let lists = map_indices(
         rt,
-        || -> Result<Vec<Enclosures>, AllocError>
-            requires { IsSync R.row × IsSync G.row × (1 ≤ fewer) × (place + length left.now < 2 ^ 64) }
-            ensures { IfOk result (λ found. AreEnclosuresOf left.entry.now found.items) }
-        { enclose_from(rt, alloc, left, fewer, gate, place) },
-        || -> Result<Vec<Enclosures>, AllocError>
-            requires { IsSync R.row × IsSync G.row × (1 ≤ more) × (later + length right.now < 2 ^ 64) }
-            ensures { IfOk result (λ found. AreEnclosuresOf right.entry.now found.items) }
-        { enclose_from(rt, alloc, right, more, gate, later) },
-    );
-    let mut all = before?;
-    let mut rest = after?;
-    all.append(&mut rest)?;
-    Ok(all)
+        alloc,
+        plans.len().min(workers as usize),
+        &|_worker: usize| -> Result<Vec<Solved>, AllocError>
+            requires { IsSync R.row × IsSync G.row }
+            ensures { IfOk result (λ solved. AreSolvedOf method plans.entry.now solved.items) }
+        { solve_next(rt, alloc, plans, method, gate, &next) },
+    )?;
+    let slots = slots_of(alloc, plans, lists)?;
+    in_order(rt, alloc, plans, method, gate, slots)
 }
 
-/// The same, one plan after the other.
-fn enclose_in_turn<R: Threads + Sync, G: Gate + Sync>(
+/// What one worker finds, which takes the next plan that none has taken until none is left.
+fn solve_next<R: Threads + Sync, G: Gate + Sync>(
     rt: &R,
     alloc: Global,
     plans: &[Plan],
+    method: Method,
     gate: &G,
-    place: usize,
-) -> Result<Vec<Enclosures>, AllocError>
-    requires { place + length plans.now < 2 ^ 64 }
-    ensures { IfOk result (λ found. AreEnclosuresOf plans.now found.items) }
+    next: &AtomicUsize,
+) -> Result<Vec<Solved>, AllocError>
+    ensures { IfOk result (λ solved. AreSolvedOf method plans.now solved.items) }
 {
-    let mut found = Vec::new(alloc);
-    for k in 0..plans.len() {
-        found.push(enclose_with(rt, alloc, &plans[k], 1, gate, place + k)?)?;
+    let mut solved = Vec::new(alloc);
+    for _ in 0..plans.len() {
+        let place = next.fetch_add(1, Ordering::SeqCst);
+        if place >= plans.len() {
+            break;
+        }
+        let found = enclose_by(rt, alloc, &plans[place], method, 1, gate, place)?;
+        solved.push(Solved { place, found })?;
     }
-    Ok(found)
+    Ok(solved)
 }

@@ -1,8 +1,7 @@
--- All measures of a plan: how many there are, that each speaks of the plan's units and atoms, and that every
--- solution lies in them.
-use Rattle.std.proofs.Common.{◌≡◌, ℕ, ◌+◌, ◌-◌, ◌*◌, ◌≤◌, List, ◌++◌, length, map, All, refl, sym, ap, subst, ◌∙◌, arith, length-append}
+-- All measures of a plan with the ends of the method: how many there are, that every solution lies in them, and that they are
+-- one list.
+use Rattle.std.proofs.Common.{◌≡◌, ℕ, ◌+◌, ◌-◌, ◌*◌, ◌≤◌, List, length, map, All, sym, ap, subst, ◌∙◌, arith, length-append}
 use Rattle.std.specs.List.{range_with_len}
-use Rattle.std.proofs.lemmas.List.Elements.{All-append}
 use Rattle.std.proofs.lemmas.List.FromFn.{length-map-range_with_len}
 use Rattle.std.proofs.lemmas.Nat.{mul-le}
 use Rattle.fixed_interval.specs.Ends.{Ends}
@@ -12,26 +11,21 @@ use Rattle.hyper_model.specs.declared.kinds.Line.{Line}
 use Rattle.hyper_model.specs.declared.kinds.Line.TheVariants as line
 use Rattle.hyper_model.specs.declared.kinds.Enclosed.{Enclosed}
 use Rattle.hyper_model.specs.declared.parts.PlanParts.{PlanParts}
-use Rattle.hyper_model.specs.Measures.{AreContained, ContainsSolutions, IsContained, IsInRange}
+use Rattle.hyper_model.specs.Measures.{ContainsSolutions, IsInRange}
 use Rattle.hyper_model.specs.Plans.{units, atoms, all_calls, all_service, IsAccepted}
-use Rattle.hyper_model.specs.Solutions.{IsSolution, mass_in}
 use Rattle.hyper_model.specs.Words.{words}
 use Rattle.hyper_model.proofs.Ranges.{table_length}
 use Rattle.busy_words.specs.Order.{WordOrder}
 use Rattle.busy_words.proofs.Ordering.{one_order}
 use Rattle.back_solve.proofs.WeightLists.{are_determined, pushed-one}
 use Rattle.queue_tail.specs.Tail.{GainsTail, tail_weight}
-use Rattle.workload_measures.specs.LoadEnds.{loads_of, workload_of, workloads_of}
-use Rattle.workload_measures.proofs.Contain.{loads_contained, loads_in_range}
-use Rattle.dispatch_fractions.specs.PartLists.{PartList, parts_from}
+use Rattle.workload_measures.specs.LoadEnds.{workload_of, workloads_of}
+use Rattle.dispatch_fractions.specs.PartLists.{PartList}
 use Rattle.dispatch_fractions.specs.Fractions.{district_share, fraction_of, fractions_of, interdistrict_of, unit_share}
-use Rattle.dispatch_fractions.proofs.Contain.{dispatches_contained, dispatches_in_range}
-use Rattle.dispatch_fractions.proofs.Holding.{has_parts, parts_are}
-use Rattle.travel_measures.specs.TravelEnds.{atom_time, atom_times_of, district_time, district_times_of, travel_times_of, unit_time, unit_times_of}
-use Rattle.travel_measures.proofs.Contain.{times_contained, times_in_range}
+use Rattle.travel_measures.specs.TravelEnds.{atom_time, atom_times_of, district_time, district_times_of, unit_time, unit_times_of}
 use Rattle.plan_solver.specs.PlanWeights.{ArePlanWeights, AreWeightsOn, last_entries}
-use Rattle.plan_solver.specs.Enclosures.{IsEnclosureOf, dispatches_of, measures_of}
-use Rattle.plan_solver.proofs.PlanChains.{encloses}
+use Rattle.plan_solver.specs.Enclosures.{IsEnclosureOf, measures_of}
+use Rattle.plan_solver.proofs.SoundMeasures.{enclosure_sound, measures_in_range, sound_contains}
 
 -- a list that was read has room if the list that it is has
 pub read_fits : (items list : List Enclosed) (most : ℕ) → items ≡ list → length list ≤ most → length items ≤ most
@@ -72,42 +66,12 @@ pub district_times_fit : (p : PlanParts) → IsAccepted p → (parts : PartList)
 district_times_fit p a parts =
     omega (arith, length-map-range_with_len (district_time p parts) 0 (units p), a.units.number.high)
 
--- what holds of calls and units, of dispatches and of travel times holds of all
-all_measures : (P : Enclosed → Type 0) (p : PlanParts) (order : WordOrder) (items : List Ends)
-    → All P (loads_of p order items)
-    → ((parts : PartList) → parts ≡ parts_from p order (ends_at items)
-    → All P (fractions_of p parts ++ interdistrict_of p parts) × All P (travel_times_of p parts))
-    → All P (measures_of p order items)
-all_measures P p order items loads rest =
-    let parts = parts_from p order (ends_at items) in
-    let both = rest parts refl in
-    All-append P (loads_of p order items) (dispatches_of p parts) loads
-    (All-append P (fractions_of p parts ++ interdistrict_of p parts) (travel_times_of p parts) both.0 both.1)
-
-measures_in_range : (p : PlanParts) (order : WordOrder) (items : List Ends)
-    → All (λ e. IsInRange p e.measure) (measures_of p order items)
-measures_in_range p order items =
-    all_measures (λ e. IsInRange p e.measure) p order items (loads_in_range p order items)
-    (λ parts is. (dispatches_in_range p parts, times_in_range p parts))
-
--- every solution lies in them
-measures_contained : (p : PlanParts) → IsAccepted p → (order : WordOrder) (items : List Ends) → ArePlanWeights p order items
-    → (xs : List ℕ) (z : ℕ) → IsSolution p xs z → AreContained p (mass_in xs) z (measures_of p order items)
-measures_contained p a order items w xs z s =
-    let enclosing = encloses p a order w.ordered xs z s items w.weights in
-    all_measures (IsContained p (mass_in xs) z) p order items (loads_contained p a order w.ordered items xs z enclosing)
-    (λ parts is.
-    let having = has_parts p a order w.ordered items xs z enclosing parts
-    (rw is (parts_are p order (ends_at items))) in
-    (dispatches_contained p parts xs z having, times_contained p parts xs z having))
-
 pub enclosure_is : (p : PlanParts) (order : WordOrder) (items : List Ends) → ArePlanWeights p order items
     → (found : List Enclosed) → found ≡ measures_of p order items → IsEnclosureOf p found
 enclosure_is p order items w found is = record { order = order; items = items; weights = w; exact = is }
 
 pub enclosure_contains : (p : PlanParts) → IsAccepted p → (found : List Enclosed) → IsEnclosureOf p found → ContainsSolutions p found
-enclosure_contains p a found is xs z s =
-    subst (AreContained p (mass_in xs) z) (sym is.exact) (measures_contained p a is.order is.items is.weights xs z s)
+enclosure_contains p a found is = sound_contains p a found (enclosure_sound p a found is)
 
 pub enclosure_in_range : (p : PlanParts) (found : List Enclosed) → IsEnclosureOf p found
     → All (λ e. IsInRange p e.measure) found

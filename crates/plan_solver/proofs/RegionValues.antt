@@ -26,7 +26,8 @@ use Rattle.dispatch_fractions.specs.PartLists.{parts_from}
 use Rattle.dispatch_fractions.specs.Fractions.{fractions_of, interdistrict_of}
 use Rattle.travel_measures.specs.TravelEnds.{travel_times_of}
 use Rattle.plan_solver.specs.Enclosures.{IsEnclosureOf, dispatches_of, measures_of}
-use Rattle.plan_solver.proofs.AllMeasures.{enclosure_contains}
+use Rattle.plan_solver.specs.SoundEnclosures.{IsSoundEnclosure}
+use Rattle.plan_solver.proofs.SoundMeasures.{enclosure_sound, sound_contains}
 
 -- the line has the measure
 abbrev is_on : Line → Measure → Bool
@@ -99,19 +100,30 @@ region_contained p order items x z m region each = by (has_value m (measures_of 
         subst (λ (v : Value). ContainsRatio v.lo v.hi (scale_of m) (measure_of p x z m)) (sym (value_none m list h))
         (nothing (is_on p.line m) refl h)
 
-pub region_value_contains : (p : PlanParts) (m : Measure) (found : List Enclosed) → is_of_region m ≡ true → IsAccepted p → IsEnclosureOf p found
+pub sound_value_contains : (p : PlanParts) (m : Measure) (found : List Enclosed) → is_of_region m ≡ true → IsAccepted p → IsSoundEnclosure p found
     → (xs : List ℕ) (z : ℕ) → IsSolution p xs z
     → ContainsRatio (value_in m found).lo (value_in m found).hi (scale_of m) (measure_of p (mass_in xs) z m)
-region_value_contains p m found region a e xs z s =
-    let each = enclosure_contains p a found e xs z s in
+sound_value_contains p m found region a e xs z s =
+    let each = sound_contains p a found e xs z s in
     subst (λ list. ContainsRatio (value_in m list).lo (value_in m list).hi (scale_of m) (measure_of p (mass_in xs) z m)) (sym e.exact)
     (region_contained p e.order e.items (mass_in xs) z m region (subst (λ list. All (IsContained p (mass_in xs) z) list) e.exact each))
 
-pub region_below : (p q : PlanParts) (m : Measure) (found others : List Enclosed) → is_of_region m ≡ true → IsAccepted p → IsAccepted q
-    → IsEnclosureOf p found → IsEnclosureOf q others → (value_in m found).hi < (value_in m others).lo → IsBelow m p q
-region_below p q m found others region a b e f apart xs ys z t s u =
+pub sound_below : (p q : PlanParts) (m : Measure) (found others : List Enclosed) → is_of_region m ≡ true → IsAccepted p → IsAccepted q
+    → IsSoundEnclosure p found → IsSoundEnclosure q others → (value_in m found).hi < (value_in m others).lo → IsBelow m p q
+sound_below p q m found others region a b e f apart xs ys z t s u =
     let of_p = region_in_range p m region in
     let of_q = region_in_range q m region in
-    less _ _ _ _ (scale_of m) (measure_of p (mass_in xs) z m) (measure_of q (mass_in ys) t m) (region_value_contains p m found region a e xs z s)
-    (region_value_contains q m others region b f ys t u) apart (denominator_positive p a xs z s m of_p.0 of_p.1)
+    less _ _ _ _ (scale_of m) (measure_of p (mass_in xs) z m) (measure_of q (mass_in ys) t m) (sound_value_contains p m found region a e xs z s)
+    (sound_value_contains q m others region b f ys t u) apart (denominator_positive p a xs z s m of_p.0 of_p.1)
     (denominator_positive q b ys t u m of_q.0 of_q.1)
+
+-- with the ends of the elimination as well
+pub region_value_contains : (p : PlanParts) (m : Measure) (found : List Enclosed) → is_of_region m ≡ true → IsAccepted p → IsEnclosureOf p found
+    → (xs : List ℕ) (z : ℕ) → IsSolution p xs z
+    → ContainsRatio (value_in m found).lo (value_in m found).hi (scale_of m) (measure_of p (mass_in xs) z m)
+region_value_contains p m found region a e = sound_value_contains p m found region a (enclosure_sound p a found e)
+
+pub region_below : (p q : PlanParts) (m : Measure) (found others : List Enclosed) → is_of_region m ≡ true → IsAccepted p → IsAccepted q
+    → IsEnclosureOf p found → IsEnclosureOf q others → (value_in m found).hi < (value_in m others).lo → IsBelow m p q
+region_below p q m found others region a b e f =
+    sound_below p q m found others region a b (enclosure_sound p a found e) (enclosure_sound q b others f)

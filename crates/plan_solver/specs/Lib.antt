@@ -1,3 +1,4 @@
 pub mod PlanWeights
 pub mod Enclosures
+pub mod SoundEnclosures
 pub mod Solvers

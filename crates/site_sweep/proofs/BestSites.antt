@@ -1,7 +1,6 @@
 -- A site that is dropped is beaten by one that is kept: the one with the least high end.
-use Rattle.std.proofs.Common.{◌≡◌, ◌∙◌, ℕ, zero, suc, ◌+◌, ◌*◌, ◌<◌, ◌≤◌, ◌⊎◌, inl, inr, Bool, true, false, not, List, [], ◌∷◌, length, map, get_or, refl, sym, ap, subst, arith, Some}
+use Rattle.std.proofs.Common.{◌≡◌, ◌∙◌, ℕ, zero, suc, ◌+◌, ◌*◌, ◌<◌, ◌≤◌, ◌⊎◌, inl, inr, Bool, true, false, not, List, [], ◌∷◌, length, get_or, refl, sym, ap, subst, arith, Some}
 use Rattle.std.specs.Prelude.{All, nat_lt, slice_get}
-use Rattle.std.specs.List.{list_any, range_with_len}
 use Rattle.std.proofs.Math.Nat.{mul-le-mul_right}
 use Rattle.std.proofs.lemmas.Bool.Decides.{nat_tests}
 use Rattle.std.proofs.lemmas.List.Elements.{All-from_get_or}
@@ -20,12 +19,13 @@ use Rattle.hyper_model.proofs.Denominators.{denominator_positive}
 use Rattle.hyper_model.proofs.MeasureValues.{region_in_range}
 use Rattle.hyper_model.proofs.PlanLaws.{has_solution}
 use Rattle.plan_solver.proofs.RegionValues.{region_below, region_value_contains}
+use Rattle.plan_solver.proofs.SolvedPlans.{AllZip-at}
 use Rattle.site_sweep.specs.Placed.{placed}
 use Rattle.site_sweep.specs.Sites.{AreSitesOf, IsValueOf, is_beaten, placed_plans, site_at, sites_of, value_at}
-use Rattle.site_sweep.specs.Truth.{AreBestKept, AreDroppedBeaten, ContainsSites, HasBetter, IsBest}
+use Rattle.site_sweep.specs.Truth.{AreBestKept, AreDroppedBeaten, ContainsSites, HasBetter}
 use Rattle.site_sweep.specs.declared.site_list.Site.{Site}
 use Rattle.site_sweep.proofs.AcceptedPlaces.{placed_accepted}
-use Rattle.site_sweep.proofs.PlanValues.{AllZip-at, same_values}
+use Rattle.site_sweep.proofs.PlanValues.{same_values}
 
 -- ends that contain a ratio are in order
 ordered : (lo hi scale : ℕ) (r : Ratio) → ContainsRatio lo hi scale r → 0 < r.denominator → lo ≤ hi

@@ -1,7 +1,6 @@
 -- The values of a measure in several plans, one plan after the other.
-use Rattle.std.proofs.Common.{◌≡◌, ◌∙◌, ℕ, zero, suc, ◌+◌, ◌-◌, ◌*◌, ◌<◌, ◌≤◌, List, [], ◌∷◌, ◌++◌, length, map, get_or, refl, sym, ap, subst, arith, append-nil, append_assoc}
+use Rattle.std.proofs.Common.{◌≡◌, ◌∙◌, ℕ, zero, suc, ◌+◌, ◌-◌, ◌*◌, ◌<◌, ◌≤◌, List, [], ◌∷◌, ◌++◌, length, map, refl, sym, ap, subst, arith, append-nil, append_assoc}
 use Rattle.std.specs.Prelude.{min}
-use Rattle.std.specs.List.{AllZip, range_with_len}
 use Rattle.std.proofs.lemmas.List.FromFn.{length-map-range_with_len, map-range_with_len_more}
 use Rattle.std.proofs.lemmas.Slice.Zip.{AllZip-long}
 use Rattle.hyper_model.specs.Enclosures.{EnclosureList}
@@ -16,14 +15,6 @@ use Rattle.plan_solver.proofs.AllMeasures.{one_enclosure}
 use Rattle.plan_solver.proofs.SolvedPlans.{AllZip-append}
 use Rattle.site_sweep.specs.Placed.{placed}
 use Rattle.site_sweep.specs.Sites.{AreValuesOf, GainsValues, IsValueOf, placed_from, placed_plans}
-
--- what belongs together at a place
-pub AllZip-at : {A B : Type 0} (R : A → B → Type 0) (xs : List A) (ys : List B) → AllZip R xs ys → (k : ℕ) (d : A) (e : B)
-    → k < length xs → R (get_or xs k d) (get_or ys k e)
-AllZip-at R [] ys h k d e l = absurd (omega arith)
-AllZip-at R (x ∷ xs) [] h k d e l = absurd h
-AllZip-at R (x ∷ xs) (y ∷ ys) h zero d e l = h.0
-AllZip-at R (x ∷ xs) (y ∷ ys) h (suc k) d e l = AllZip-at R xs ys h.1 k d e (omega arith)
 
 module _ (m : Measure) where
   -- those of the lists that enclose the plans

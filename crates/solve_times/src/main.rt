@@ -3,7 +3,7 @@
 //! Without arguments the weights of a small made plan and the size of its report are printed, which are always the same.
 //! `rates FILE` prints the rates of a plan's chain. `rows FILE WORKERS`, `solve FILE WORKERS` and `parts FILE WORKERS`
 //! write nanoseconds to standard error: of the changes of rows, of the weights, and of reading, weighing, measuring and
-//! writing.
+//! writing. `certificate FILE` writes those of all measures by elimination and by a certificate, and whether there is one.
 #![tactic(auto)]
 
 ghost use Rattle.std.specs.Prelude.{◌≤◌, IfOk};
@@ -19,6 +19,7 @@ use std::time::Clock;
 use std::{env, fs};
 
 mod measuring;
+mod methods;
 mod orders;
 mod parts;
 mod rates;
@@ -40,7 +41,7 @@ fn run<R: Print + Eprint + Files + Clock + Threads + Sync + AllocGlobal>(
 ) -> Result<(), TimesRefusal> {
     match arguments {
         [] => print_small(rt),
-        [_, file] => print_rates(rt, &read(rt, file.as_str())?),
+        [task, file] => try_plan(rt, task.as_str(), &read(rt, file.as_str())?),
         [task, file, workers] => {
             let workers = workers_of(workers.as_str())?;
             measure(rt, task.as_str(), file.as_str(), workers)
@@ -86,6 +87,28 @@ fn print_weights<R: Print + Clock + Threads + Sync + AllocGlobal>(
     println!(rt; "changed,{}", updates.changed)?;
     let (weights, _) = solving::solve(rt, rt.alloc(), &chain, 1)?;
     solving::print_weights(rt, &weights)?;
+    Ok(())
+}
+
+fn try_plan<R: Print + Eprint + Clock + AllocGlobal>(
+    rt: &R,
+    task: &str,
+    plan: &Plan,
+) -> Result<(), TimesRefusal> {
+    if task == "certificate" {
+        measure_methods(rt, plan)
+    } else {
+        print_rates(rt, plan)
+    }
+}
+
+fn measure_methods<R: Eprint + Clock + AllocGlobal>(
+    rt: &R,
+    plan: &Plan,
+) -> Result<(), TimesRefusal> {
+    let times = methods::time_methods(rt, rt.alloc(), plan)?;
+    let (elimination, certificate) = (times.elimination, times.certificate);
+    eprintln!(rt; "{elimination} {certificate} {}", times.is_certified)?;
     Ok(())
 }
 

@@ -10,7 +10,7 @@ use thiserror::Error;
 #[derive(Drop, Error)]
 pub(crate) enum TimesRefusal {
     /// The arguments ask for none of the tasks.
-    #[error("the arguments are rates FILE, or rows, solve or parts FILE WORKERS")]
+    #[error("the arguments are rates or certificate FILE, or rows, solve or parts FILE WORKERS")]
     UnknownArguments,
     /// There were to be no workers, or more than 16.
     #[error("there are 1 to 16 workers")]

@@ -4,6 +4,8 @@
 #[cfg(test)]
 mod by_hand;
 #[cfg(test)]
+mod certified;
+#[cfg(test)]
 mod pairs;
 #[cfg(test)]
 mod plans;
