@@ -55,6 +55,11 @@ MEMORY_RUNS = (
     ("sweep two.csv C travel", 400),
     ("replay two.csv day.csv", 2000),
     ("replay two.csv idle.csv", 400),
+    ("reach two.csv 60,300", 2000),
+    ("reach queue.csv 300", 400),
+    ("solve two.csv --method certificate", 2000),
+    ("solve queue.csv --method certificate", 400),
+    ("compare both.toml --method certificate", 2000),
     ("make 10 7", 400),
     (f"compare {STUDY}", 400),
     ("solve two.csv --workers 4", 400),
@@ -65,15 +70,19 @@ MEMORY_RUNS = (
     ("", 400),
 )
 READING_RUNS = ("solve two.csv", "solve queue.csv", "compare both.toml", "compare twice.toml", f"compare {STUDY}",
-                "finite two.csv 2", "pairs two.csv 50", "sweep two.csv B travel", "replay two.csv day.csv")
+                "finite two.csv 2", "pairs two.csv 50", "sweep two.csv B travel", "replay two.csv day.csv",
+                "reach two.csv 60,300", "solve two.csv --method certificate", "compare both.toml --method certificate")
 WRITING_RUNS = ("solve two.csv", "compare both.toml", "make 2 7", "finite two.csv 2", "pairs two.csv 50",
-                "sweep two.csv B travel", "replay two.csv day.csv", "solve wrong.csv", "solve wide.csv --time-width 2", "")
+                "sweep two.csv B travel", "replay two.csv day.csv", "reach two.csv 60,300", "solve two.csv --method certificate",
+                "solve wrong.csv", "solve wide.csv --time-width 2", "")
 # A run by one worker, and a run that has to write the same with threads. A sweep has as many as there are processors.
 THREAD_RUNS = (
     *((line, f"{line} --workers {workers}")
       for line in ("solve two.csv", f"solve {EIGHT}", "compare both.toml", f"compare {STUDY}") for workers in (2, 4, 16)),
     ("sweep two.csv B travel", "sweep two.csv B travel"),
     ("sweep street.csv B travel", "sweep street.csv B travel"),
+    ("solve two.csv --method certificate", "solve two.csv --method certificate --workers 4"),
+    ("compare both.toml --method certificate", "compare both.toml --method certificate --workers 4"),
 )
 
 # Words, how the run ends, and what it writes.
@@ -114,6 +123,12 @@ PLACES = (
     (["replay", "two.csv", "two.csv"], "refused", b"refused,2,92,1\n"),
     (["replay", "two.csv", "idle.csv"], "refused", b"refused,2,95,1\n"),
     (["replay", "two.csv", "/dev/zero"], "refused", b"refused,2,90,4194305\n"),
+    (["reach", "folder", "1"], "unread", b""),
+    (["reach", "gone.csv", "1"], "absent", b""),
+    (["reach", "wrong.csv", "1"], "refused", b"refused,1,3,1\n"),
+    (["reach", "/dev/zero", "1"], "refused", b"refused,1,2,4194305\n"),
+    (["solve", "gone.csv", "--method", "certificate"], "absent", b""),
+    (["compare", "folder", "--method", "certificate"], "unread", b""),
     ([b"\xff"], "usage", USAGE),
     (["solve", b"two\xff.csv"], "usage", USAGE),
     (["solve", "two.csv", b"--workers=\xff"], "usage", USAGE),
@@ -123,6 +138,9 @@ PLACES = (
     (["sweep", "two.csv", b"\xff", "loss"], "usage", USAGE),
     (["sweep", "two.csv", "A" * 33, "loss"], "usage", USAGE),
     (["replay", "two.csv", b"\xff"], "usage", USAGE),
+    (["reach", "two.csv", b"\xff"], "usage", USAGE),
+    (["reach", "two.csv", "2,1"], "usage", USAGE),
+    (["solve", "two.csv", "--method", "gauss"], "usage", USAGE),
 )
 
 

@@ -4,6 +4,7 @@ import dataclasses
 import fcntl
 import os
 import pathlib
+import select
 import shutil
 import subprocess
 import sys
@@ -97,6 +98,7 @@ def output_of(name):
             reader.start()
             if least == 0:
                 reader.join()
+                wait_for_no_reader(write)
             yield [], write
             os.close(write)
         case path:
@@ -109,6 +111,13 @@ def read_and_close(pipe, least):
     if least:
         os.read(pipe, least)
     os.close(pipe)
+
+
+def wait_for_no_reader(pipe):
+    """A run that is just being started has all open files for a moment, the other end of the pipe too."""
+    poll = select.poll()
+    poll.register(pipe, 0)
+    poll.poll(10_000)
 
 
 def watched(process):

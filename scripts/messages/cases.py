@@ -86,11 +86,13 @@ HELP = """Write hypercube, a command and its options:
   pairs PLAN PERCENT        a plan if so many of a hundred calls need two units: PERCENT from 0 to 100
   sweep PLAN UNIT MEASURE   where to put a unit: MEASURE is loss, delay, interdistrict or travel
   replay PLAN DAY           a recorded day beside the plan
+  reach PLAN SECONDS        which share of calls is reached in time: SECONDS is 1 to 16 numbers, as 240,480,720
 Options of solve and compare, in any place:
   --width W                 how far the ends of a share may lie apart, in millionths: 2 to 999,999,999; default: any
   --time-width W            how far the ends of a time may, in thousandths of a second: 2 to 999,999,999; default: any
   --workers N               how many processors share the work: 1 to 16; default: 1
   --summary                 solve only: the measures of the whole region; default: all measures
+  --method METHOD           how intervals are found: elimination or certificate; default: elimination
 A width is written --width 500 or --width=500. After -- a word that begins with a dash is a name.
 Names of files begin in the current folder. The report goes to standard output, all else to standard error.
 The exit status is 0 for a report, 1 for words that are no command, 2 for a text or a number that is refused,
@@ -397,6 +399,8 @@ COMMANDS = (
          "town.csv: the text has no record. Is it the file that was meant? (refusal 15)", command="sweep"),
     Case("a plan of a day", ["replay", "town.csv", "day.csv"], {"town.csv": "", "day.csv": ""}, 2,
          "town.csv: the text has no record. Is it the file that was meant? (refusal 15)", command="replay"),
+    Case("a plan whose calls are to be reached", ["reach", "town.csv", "480"], {"town.csv": ""}, 2,
+         "town.csv: the text has no record. Is it the file that was meant? (refusal 15)"),
     day("90", "call,0,P\n" + "#" * 4194304,
         "day.csv: the file has more than 4,194,304 bytes. Is it the file that was meant? Take out what the "
         "program does not need. (refusal 90)"),
@@ -526,6 +530,26 @@ USAGES = (
           "replay lacks a word. Write replay PLAN DAY."),
     usage(["replay", "town.csv", ""],
           "the name of the day is empty."),
+    usage(["reach", "town.csv"],
+          "reach lacks a word. Write reach PLAN SECONDS."),
+    usage(["reach", "town.csv", "eight"],
+          'SECONDS is "eight", and has to be a number from 0 to 100,000, of at most 6 digits, or several of them '
+          "with commas between."),
+    usage(["reach", "town.csv", "240,100001"],
+          'SECONDS has "100001" among its numbers, and each has to be a number from 0 to 100,000, of at most 6 '
+          "digits."),
+    usage(["reach", "town.csv", "480,480"],
+          'SECONDS has "480" after a number that is not less. Write the least number first, and each once.'),
+    usage(["reach", "town.csv", ",".join(map(str, range(17)))],
+          "SECONDS has 17 numbers, and may have 16. Ask in several runs."),
+    usage(["reach", "town.csv", "480", "--workers", "2"],
+          "reach has no option --workers."),
+    usage(["solve", "town.csv", "--method"],
+          "elimination or certificate has to follow --method."),
+    usage(["compare", "town.csv", "--method=gauss"],
+          '--method is "gauss", and has to be elimination or certificate.'),
+    usage(["pairs", "town.csv", "5", "--method", "certificate"],
+          "pairs has no option --method."),
     usage([b"\xff"],
           "a word is not UTF-8, and no command has such a word: rename the file."),
     usage(["--help"],

@@ -2,41 +2,43 @@
 use Rattle.std.proofs.Common.{◌≡◌, ℕ, [], ◌∷◌, refl}
 use Rattle.std.specs.Prelude.{true, false, Option, Some, None, codes}
 use Rattle.hyper_model.specs.declared.kinds.Measure.TheVariants.{Travel}
+use Rattle.hyper_model.specs.declared.kinds.Method.TheVariants.{Certificate, Elimination}
 use Rattle.report_text.specs.declared.ending.Widths.{Widths}
-use Rattle.command_words.specs.Command.{command, compare_of, finite_of, pairs_of, replay_of, solve_of, sweep_of}
+use Rattle.command_words.specs.Command.{command, compare_of, finite_of, pairs_of, reach_of, replay_of, solve_of, sweep_of}
+use Rattle.command_words.specs.Limits.{limits_in}
 use Rattle.command_words.specs.Options.{options_of}
 use Rattle.command_words.specs.Plain.{file_with_number, file_with_options}
 use Rattle.command_words.specs.Arguments.{free_argument, lists_from, long_argument}
-use Rattle.command_words.specs.declared.command.Command.TheVariants.{Solve, Compare, Finite, Pairs, Sweep, Replay}
+use Rattle.command_words.specs.declared.command.Command.TheVariants.{Solve, Compare, Finite, Pairs, Sweep, Replay, Reach}
 
 abbrev widths : Option ℕ → Option ℕ → Widths
 widths share time = record { share = share; time = time }
 
-file_alone : command (codes "solve" ∷ codes "a.csv" ∷ []) ≡ Some (Solve (codes "a.csv") (widths None None) 1 false)
+file_alone : command (codes "solve" ∷ codes "a.csv" ∷ []) ≡ Some (Solve (codes "a.csv") (widths None None) 1 false Elimination)
 unfolding lists_from free_argument long_argument options_of solve_of file_with_options
 file_alone = refl
 
 flag_before_the_plain_arguments : command (codes "--summary" ∷ codes "solve" ∷ codes "a.csv" ∷ [])
-    ≡ Some (Solve (codes "a.csv") (widths None None) 1 true)
+    ≡ Some (Solve (codes "a.csv") (widths None None) 1 true Elimination)
 unfolding lists_from free_argument long_argument options_of solve_of file_with_options
 flag_before_the_plain_arguments = refl
 
 width_after_its_name : command (codes "solve" ∷ codes "a.csv" ∷ codes "--width" ∷ codes "2" ∷ [])
-    ≡ Some (Solve (codes "a.csv") (widths (Some 2) None) 1 false)
+    ≡ Some (Solve (codes "a.csv") (widths (Some 2) None) 1 false Elimination)
 unfolding lists_from free_argument long_argument options_of solve_of file_with_options
 width_after_its_name = refl
 
 values_in_their_arguments : command (codes "--workers=16" ∷ codes "compare" ∷ codes "s.toml" ∷ codes "--time-width=010" ∷ [])
-    ≡ Some (Compare (codes "s.toml") (widths None (Some 10)) 16)
+    ≡ Some (Compare (codes "s.toml") (widths None (Some 10)) 16 Elimination)
 unfolding lists_from free_argument long_argument options_of compare_of file_with_options
 values_in_their_arguments = refl
 
 dash_after_dashes : command (codes "solve" ∷ codes "--" ∷ codes "-x.csv" ∷ [])
-    ≡ Some (Solve (codes "-x.csv") (widths None None) 1 false)
+    ≡ Some (Solve (codes "-x.csv") (widths None None) 1 false Elimination)
 unfolding lists_from free_argument long_argument options_of solve_of file_with_options
 dash_after_dashes = refl
 
-dash_alone : command (codes "solve" ∷ codes "-" ∷ []) ≡ Some (Solve (codes "-") (widths None None) 1 false)
+dash_alone : command (codes "solve" ∷ codes "-" ∷ []) ≡ Some (Solve (codes "-") (widths None None) 1 false Elimination)
 unfolding lists_from free_argument long_argument options_of solve_of file_with_options
 dash_alone = refl
 
@@ -132,3 +134,37 @@ plan_and_day = refl
 day_with_workers : command (codes "replay" ∷ codes "a.csv" ∷ codes "d.csv" ∷ codes "--workers=2" ∷ []) ≡ None
 unfolding lists_from free_argument long_argument replay_of
 day_with_workers = refl
+
+method_after_its_name : command (codes "solve" ∷ codes "a.csv" ∷ codes "--method" ∷ codes "certificate" ∷ [])
+    ≡ Some (Solve (codes "a.csv") (widths None None) 1 false Certificate)
+unfolding lists_from free_argument long_argument options_of solve_of file_with_options
+method_after_its_name = refl
+
+method_of_a_comparison : command (codes "compare" ∷ codes "s.toml" ∷ codes "--method=elimination" ∷ [])
+    ≡ Some (Compare (codes "s.toml") (widths None None) 1 Elimination)
+unfolding lists_from free_argument long_argument options_of compare_of file_with_options
+method_of_a_comparison = refl
+
+another_method : command (codes "solve" ∷ codes "a.csv" ∷ codes "--method=Certificate" ∷ []) ≡ None
+unfolding lists_from free_argument long_argument options_of solve_of file_with_options
+another_method = refl
+
+method_twice : command (codes "solve" ∷ codes "a.csv" ∷ codes "--method=certificate" ∷ codes "--method=certificate" ∷ []) ≡ None
+unfolding lists_from free_argument long_argument options_of solve_of file_with_options
+method_twice = refl
+
+pairs_with_a_method : command (codes "pairs" ∷ codes "a.csv" ∷ codes "50" ∷ codes "--method=elimination" ∷ []) ≡ None
+unfolding lists_from free_argument long_argument pairs_of file_with_number
+pairs_with_a_method = refl
+
+two_limits : command (codes "reach" ∷ codes "a.csv" ∷ codes "240,480" ∷ []) ≡ Some (Reach (codes "a.csv") (240 ∷ 480 ∷ []))
+unfolding lists_from free_argument long_argument reach_of limits_in
+two_limits = refl
+
+falling_limits : command (codes "reach" ∷ codes "a.csv" ∷ codes "480,240" ∷ []) ≡ None
+unfolding lists_from free_argument long_argument reach_of limits_in
+falling_limits = refl
+
+limits_with_workers : command (codes "reach" ∷ codes "a.csv" ∷ codes "480" ∷ codes "--workers=2" ∷ []) ≡ None
+unfolding lists_from free_argument long_argument reach_of limits_in
+limits_with_workers = refl

@@ -32,6 +32,7 @@ long_argument text =
     if begins (codes "--width=") text then option_argument key.Width (rest_after (codes "--width=") text)
     else if begins (codes "--time-width=") text then option_argument key.TimeWidth (rest_after (codes "--time-width=") text)
     else if begins (codes "--workers=") text then option_argument key.Workers (rest_after (codes "--workers=") text)
+    else if begins (codes "--method=") text then option_argument key.Method (rest_after (codes "--method=") text)
     else if begins (codes "-") text then None
     else Some argument.Plain
 
@@ -44,6 +45,7 @@ free_argument text =
     else if bytes_eq text (codes "--width") then Some (argument.Name key.Width)
     else if bytes_eq text (codes "--time-width") then Some (argument.Name key.TimeWidth)
     else if bytes_eq text (codes "--workers") then Some (argument.Name key.Workers)
+    else if bytes_eq text (codes "--method") then Some (argument.Name key.Method)
     else long_argument text
 
 abbrev pub argument_in : Mode → List ℕ → Option Argument

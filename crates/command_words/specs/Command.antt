@@ -1,5 +1,5 @@
 -- The command that the arguments of the program give.
-use Rattle.std.specs.Prelude.{◌≡◌, ℕ, ◌≤◌, Bool, true, if◌then◌else◌, List, [], ◌∷◌, Option, Some, None, Result, Ok, Err, codes, find}
+use Rattle.std.specs.Prelude.{◌≡◌, ℕ, ◌≤◌, true, if◌then◌else◌, List, [], ◌∷◌, Option, Some, None, Result, Ok, Err, codes, find}
 use Rattle.std.specs.Str.{bytes_eq}
 use Rattle.hyper_model.specs.Measures.{is_of_region, word_of}
 use Rattle.hyper_model.specs.Plans.{IsBetween}
@@ -8,9 +8,10 @@ use Rattle.hyper_model.specs.declared.kinds.Measure.TheVariants as measure
 use Rattle.text_lines.specs.Numbers.{number_in}
 use Rattle.command_words.specs.Options.{◌>>=◌, AreWorkers}
 use Rattle.command_words.specs.Arguments.{lists_of}
+use Rattle.command_words.specs.Limits.{limits_in}
 use Rattle.command_words.specs.Plain.{file_with_number, file_with_options, name_in, unit_in}
 use Rattle.command_words.specs.declared.command.Command.{Command}
-use Rattle.command_words.specs.declared.command.Command.TheVariants.{Solve, Compare, Make, Finite, Pairs, Sweep, Replay}
+use Rattle.command_words.specs.declared.command.Command.TheVariants.{Solve, Compare, Make, Finite, Pairs, Sweep, Replay, Reach}
 use Rattle.command_words.specs.declared.command.WordsEnd.{WordsEnd}
 use Rattle.command_words.specs.declared.command.WordsEnd.TheVariants as end
 use Rattle.command_words.specs.declared.options.Setting.{Setting}
@@ -22,13 +23,13 @@ usage_line = codes "usage: hypercube solve FILE | compare STUDY | make UNITS NUM
 unfoldable pub solve_of : List (List ℕ) → List Setting → Option Command
 solve_of names settings = do
   given ← file_with_options names settings
-  Some (Solve given.0 given.1.widths given.1.workers given.1.summary)
+  Some (Solve given.0 given.1.widths given.1.workers given.1.summary given.1.method)
 
 -- one file, and all options but the flag
 unfoldable pub compare_of : List (List ℕ) → List Setting → Option Command
 compare_of names settings = do
   given ← file_with_options names settings
-  if given.1.summary then None else Some (Compare given.0 given.1.widths given.1.workers)
+  if given.1.summary then None else Some (Compare given.0 given.1.widths given.1.workers given.1.method)
 
 -- two numbers of 1 to 18 digits
 unfoldable pub make_of : List (List ℕ) → Option Command
@@ -74,6 +75,14 @@ replay_of (file ∷ day ∷ []) = do
   Some (Replay plan recorded)
 replay_of names = None
 
+-- a file and limits
+unfoldable pub reach_of : List (List ℕ) → Option Command
+reach_of (file ∷ seconds ∷ []) = do
+  name ← name_in file
+  limits ← limits_in seconds
+  Some (Reach name limits)
+reach_of names = None
+
 -- what plain arguments ask for without options: the first of them says what the others are
 abbrev pub plain_command : List ℕ → List (List ℕ) → Option Command
 plain_command verb names =
@@ -82,6 +91,7 @@ plain_command verb names =
     else if bytes_eq verb (codes "pairs") then pairs_of names
     else if bytes_eq verb (codes "sweep") then sweep_of names
     else if bytes_eq verb (codes "replay") then replay_of names
+    else if bytes_eq verb (codes "reach") then reach_of names
     else None
 
 -- nothing, if there is any option
@@ -117,10 +127,11 @@ ArePlaces places = IsBetween 1 1000 places
 -- 1 to 16 workers, so many waiting places, at most 100 calls of a hundred that need two units, and sites that are compared
 -- by a measure of the region
 abbrev pub NumbersInRange : Command → Type 0
-NumbersInRange (Solve file widths workers summary) = AreWorkers workers
-NumbersInRange (Compare study widths workers) = AreWorkers workers
+NumbersInRange (Solve file widths workers summary method) = AreWorkers workers
+NumbersInRange (Compare study widths workers method) = AreWorkers workers
 NumbersInRange (Make units number) = Unit {0}
 NumbersInRange (Finite file places) = ArePlaces places
 NumbersInRange (Pairs file percent) = percent ≤ 100
 NumbersInRange (Sweep file unit m) = is_of_region m ≡ true
 NumbersInRange (Replay file day) = Unit {0}
+NumbersInRange (Reach file limits) = Unit {0}

@@ -1,4 +1,5 @@
 pub mod Options
 pub mod Arguments
+pub mod Limits
 pub mod Plain
 pub mod Command

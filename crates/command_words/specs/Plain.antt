@@ -1,5 +1,5 @@
 -- What plain arguments say: the name of a file or of a unit, and a number in a range.
-use Rattle.std.specs.Prelude.{ℕ, Bool, ◌&&◌, if◌then◌else◌, List, [], ◌∷◌, length, nat_le, Option, Some, None}
+use Rattle.std.specs.Prelude.{ℕ, ◌&&◌, if◌then◌else◌, List, [], ◌∷◌, length, nat_le, Option, Some, None}
 use Rattle.text_lines.specs.Numbers.{number_in}
 use Rattle.command_words.specs.Options.{◌>>=◌, options_of}
 use Rattle.command_words.specs.declared.options.Options.{Options}

@@ -71,6 +71,7 @@ fn free_argument(text: &str) -> Option<Argument>
         "--width" => Some(Argument::Name(Key::Width)),
         "--time-width" => Some(Argument::Name(Key::TimeWidth)),
         "--workers" => Some(Argument::Name(Key::Workers)),
+        "--method" => Some(Argument::Name(Key::Method)),
         _ => long_argument(text),
     }
 }
@@ -85,6 +86,8 @@ fn long_argument(text: &str) -> Option<Argument>
         option_argument(Key::TimeWidth, value)
     } else if let Some(value) = rest_after("--workers=", text) {
         option_argument(Key::Workers, value)
+    } else if let Some(value) = rest_after("--method=", text) {
+        option_argument(Key::Method, value)
     } else if rest_after("-", text).is_some() {
         None
     } else {

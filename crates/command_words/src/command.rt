@@ -1,5 +1,5 @@
-use crate::Name255;
-use hyper_model::Measure;
+use crate::{LimitList, Name255};
+use hyper_model::{Measure, Method};
 use report_text::Widths;
 
 /// What is written if the arguments are no command.
@@ -19,6 +19,8 @@ pub enum Command {
         workers: u32,
         /// Whether only the measures of the whole region are reported.
         summary: bool,
+        /// How the weights of the plan's words are found.
+        method: Method,
     },
     /// Compare the plans of a study.
     Compare {
@@ -28,6 +30,8 @@ pub enum Command {
         widths: Widths,
         /// How many workers share the work, from 1 to 16.
         workers: u32,
+        /// How the weights of each plan's words are found.
+        method: Method,
     },
     /// Make a plan.
     Make {
@@ -65,6 +69,13 @@ pub enum Command {
         file: Name255,
         /// The day's file.
         day: Name255,
+    },
+    /// Report the shares of calls that are reached in time.
+    Reach {
+        /// The plan's file.
+        file: Name255,
+        /// Within how many seconds.
+        limits: LimitList,
     },
 }
 

@@ -3,6 +3,7 @@ ghost use Rattle.std.specs.Option.{option_to_list};
 ghost use Rattle.command_words.specs.Options as spec;
 ghost use Rattle.command_words.specs.Options.{AreWorkers, once};
 
+use hyper_model::Method;
 use report_text::Widths;
 use text_lines::number_of;
 
@@ -21,6 +22,7 @@ pub(crate) enum Key {
     Width,
     TimeWidth,
     Workers,
+    Method,
 }
 
 /// An option with its value.
@@ -29,6 +31,7 @@ pub(crate) enum Setting {
     Width(u32),
     TimeWidth(u32),
     Workers(u32),
+    Method(Method),
     Summary,
 }
 
@@ -38,19 +41,36 @@ pub(crate) struct Options {
     pub widths: Widths,
     pub workers: u32,
     pub summary: bool,
+    pub method: Method,
 }
 
 impl Key {
-    /// The option with this value, which is a number of one to nine digits.
+    /// The option with this value: a number of one to nine digits, or the word of a method.
     pub fn setting(self, value: &str) -> Option<Setting>
         ensures { result ≡ spec.setting_in self value.now }
     {
-        let number = number_of(value, MOST_VALUE_DIGITS)? as u32;
         Some(match self {
-            Key::Width => Setting::Width(number),
-            Key::TimeWidth => Setting::TimeWidth(number),
-            Key::Workers => Setting::Workers(number),
+            Key::Width => Setting::Width(value_of(value)?),
+            Key::TimeWidth => Setting::TimeWidth(value_of(value)?),
+            Key::Workers => Setting::Workers(value_of(value)?),
+            Key::Method => Setting::Method(method_of(value)?),
         })
+    }
+}
+
+fn value_of(text: &str) -> Option<u32>
+    ensures { result ≡ spec.value_in text.now }
+{
+    Some(number_of(text, MOST_VALUE_DIGITS)? as u32)
+}
+
+fn method_of(text: &str) -> Option<Method>
+    ensures { result ≡ spec.method_in text.now }
+{
+    match text {
+        "elimination" => Some(Method::Elimination),
+        "certificate" => Some(Method::Certificate),
+        _ => None,
     }
 }
 
@@ -66,6 +86,16 @@ impl Setting {
             _ => None,
         }
     }
+
+    /// Its method, if it is that option.
+    fn method(self) -> Option<Method>
+        ensures { result ≡ spec.method_of self }
+    {
+        match self {
+            Setting::Method(method) => Some(method),
+            _ => None,
+        }
+    }
 }
 
 /// What options ask for together: nothing if one of them stands twice, or asks for what cannot be.
@@ -78,6 +108,7 @@ pub(crate) fn options_of(settings: &[Setting]) -> Option<Options>
     let time = number_once(settings, Key::TimeWidth)?;
     let workers = number_once(settings, Key::Workers)?.unwrap_or(1);
     let summary = summary_once(settings)?;
+    let method = method_once(settings)?.unwrap_or(Method::Elimination);
     if !may_be_width(share) || !may_be_width(time) || !are_workers(workers) {
         return None;
     }
@@ -85,6 +116,7 @@ pub(crate) fn options_of(settings: &[Setting]) -> Option<Options>
         widths: Widths { share, time },
         workers,
         summary,
+        method,
     })
 }
 
@@ -114,12 +146,22 @@ fn number_once(settings: &[Setting], key: Key) -> Option<Option<u32>>
     Some(found)
 }
 
-fn at_most_one(first: Option<u32>, second: Option<u32>) -> Option<Option<u32>>
+fn method_once(settings: &[Setting]) -> Option<Option<Method>>
+    ensures { result ≡ spec.method_once settings.now }
+{
+    let mut found = None;
+    for setting in settings {
+        found = at_most_one(found, setting.method())?;
+    }
+    Some(found)
+}
+
+fn at_most_one<T: Copy>(first: Option<T>, second: Option<T>) -> Option<Option<T>>
     ensures { result ≡ once (option_to_list first ++ option_to_list second) }
 {
     match (first, second) {
         (Some(_), Some(_)) => None,
-        (Some(number), None) | (None, Some(number)) => Some(Some(number)),
+        (Some(value), None) | (None, Some(value)) => Some(Some(value)),
         (None, None) => Some(None),
     }
 }

@@ -3,9 +3,10 @@ ghost use Rattle.std.specs.Result.{IsErrOf};
 ghost use Rattle.std.specs.String.{string_bytes};
 ghost use Rattle.hyper_model.specs.Measures.{is_of_region};
 ghost use Rattle.command_words.specs.Command as spec;
-ghost use Rattle.command_words.specs.Command.{command, compare_of, finite_of, Gives, make_of, NumbersInRange, pairs_of, replay_of, solve_of, sweep_of, with_plain};
+ghost use Rattle.command_words.specs.Command.{command, compare_of, finite_of, Gives, make_of, NumbersInRange, pairs_of, reach_of, replay_of, solve_of, sweep_of, with_plain};
 
 use crate::argument_lists::read_arguments;
+use crate::limits::read_limits;
 use crate::name::MOST_FILE_NAME_BYTES;
 use crate::options::Setting;
 use crate::plain::{file_with_number, file_with_options, read_text};
@@ -88,6 +89,7 @@ fn solve(alloc: Global, names: &[&str], settings: &[Setting]) -> Result<Command,
         widths: options.widths,
         workers: options.workers,
         summary: options.summary,
+        method: options.method,
     })
 }
 
@@ -104,6 +106,7 @@ fn compare(alloc: Global, names: &[&str], settings: &[Setting]) -> Result<Comman
         study,
         widths: options.widths,
         workers: options.workers,
+        method: options.method,
     })
 }
 
@@ -126,6 +129,7 @@ fn without_options(
         "pairs" => pairs(alloc, names),
         "sweep" => sweep(alloc, names),
         "replay" => replay(alloc, names),
+        "reach" => reach(alloc, names),
         _ => Err(WordsEnd::NoCommand),
     }
 }
@@ -217,5 +221,19 @@ fn replay(alloc: Global, names: &[&str]) -> Result<Command, WordsEnd>
     Ok(Command::Replay {
         file: read_text(alloc, file, MOST_FILE_NAME_BYTES)?,
         day: read_text(alloc, day, MOST_FILE_NAME_BYTES)?,
+    })
+}
+
+#[tactic(auto, unfolding(crate::specs::Command::reach_of))]
+fn reach(alloc: Global, names: &[&str]) -> Result<Command, WordsEnd>
+    ensures given { Gives (reach_of (map (λ name. name.now) names.now)) result }
+    ensures numbers { IfOk result NumbersInRange }
+{
+    let [file, seconds] = names else {
+        return Err(WordsEnd::NoCommand)
+    };
+    Ok(Command::Reach {
+        file: read_text(alloc, file, MOST_FILE_NAME_BYTES)?,
+        limits: read_limits(alloc, seconds)?,
     })
 }

@@ -7,7 +7,6 @@ use Rattle.hyper_model.specs.declared.parts.PlanParts.{PlanParts}
 use Rattle.hyper_model.proofs.Denominators.{denominator_positive}
 use Rattle.hyper_model.proofs.PlanLaws.{has_solution}
 use Rattle.outer_world.specs.declared.named_text.NamedText.{NamedText}
-use Rattle.plan_solver.specs.Enclosures.{IsEnclosureOf}
 use Rattle.plan_solver.proofs.AllMeasures.{one_enclosure}
 use Rattle.day_replay.specs.Days.{IsDayOf}
 use Rattle.day_replay.specs.Played.{IsPlayed, PlayedDay}

@@ -5,12 +5,16 @@ use Rattle.hyper_model.specs.Measures.{is_of_region}
 use Rattle.hyper_model.specs.Plans.{IsAccepted, units}
 use Rattle.hyper_model.specs.declared.kinds.Enclosed.{Enclosed}
 use Rattle.hyper_model.specs.declared.kinds.Measure.{Measure}
+use Rattle.hyper_model.specs.declared.kinds.Method.{Method}
+use Rattle.hyper_model.specs.declared.kinds.Method.TheVariants as method
 use Rattle.hyper_model.specs.declared.parts.PlanParts.{PlanParts}
 use Rattle.hyper_model.proofs.Denominators.{denominator_positive}
 use Rattle.hyper_model.proofs.PlanLaws.{has_solution}
 use Rattle.report_text.specs.Reports.{report_bytes}
 use Rattle.plan_solver.specs.Enclosures.{IsEnclosureOf}
-use Rattle.plan_solver.proofs.AllMeasures.{enclosure_contains, one_enclosure}
+use Rattle.plan_solver.specs.SoundEnclosures.{IsEnclosureBy}
+use Rattle.plan_solver.proofs.AllMeasures.{one_enclosure}
+use Rattle.plan_solver.proofs.SoundMeasures.{sound_by, sound_contains}
 use Rattle.finite_line.specs.declared.kinds.FiniteEnds.{FiniteEnds}
 use Rattle.finite_line.specs.PrintedEnds.{IsFiniteEnclosureOf}
 use Rattle.finite_line.specs.Refusals.{IsFinitePlan}
@@ -36,18 +40,22 @@ use Rattle.hypercube_cli.specs.Tasks.PairedCalls.{IsTruePairs}
 use Rattle.hypercube_cli.specs.Tasks.Reports.{IsTrueReport}
 use Rattle.hypercube_cli.specs.Tasks.SweptSites.{IsTrueSweep}
 
-pub true_report : (p : PlanParts) (items : List Enclosed) (summary : Bool) (text : List ℕ) → IsAccepted p → IsEnclosureOf p items
-    → text ≡ report_bytes p items summary → IsTrueReport p summary text
-true_report p items summary text accepted enclosed written = record {
+-- by elimination there is one list of measures
+only_by : (m : Method) (p : PlanParts) (items others : List Enclosed) → IsEnclosureBy m p items → m ≡ method.Elimination
+    → IsEnclosureOf p others → others ≡ items
+only_by method.Elimination p items others enclosed is other = one_enclosure p items others enclosed other
+only_by method.Certificate p items others enclosed is other = absurd (cc)
+
+pub true_report : (p : PlanParts) (m : Method) (items : List Enclosed) (summary : Bool) (text : List ℕ) → IsAccepted p
+    → IsEnclosureBy m p items → text ≡ report_bytes p items summary → IsTrueReport p m summary text
+true_report p m items summary text accepted enclosed written = record {
   solvable = has_solution p accepted;
   positive = denominator_positive p accepted;
-  contains = record {
-    list = items;
-    exact = enclosed;
-    alone = λ (others : List Enclosed). one_enclosure p items others enclosed;
-    written = written;
-    holds = enclosure_contains p accepted items enclosed;
-  };
+  items = items;
+  enclosed = enclosed;
+  alone = λ is others. only_by m p items others enclosed is;
+  written = written;
+  contains = sound_contains p accepted items (sound_by m p accepted items enclosed);
 }
 
 pub true_finite : (p : PlanParts) (places : ℕ) (items : List FiniteEnds) (text : List ℕ) → IsAccepted p → IsFinitePlan p

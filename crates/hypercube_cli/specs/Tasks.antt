@@ -6,3 +6,4 @@ pub mod FiniteLines
 pub mod PairedCalls
 pub mod SweptSites
 pub mod ReplayedDays
+pub mod ReachedCalls

@@ -3,7 +3,7 @@ ghost use Rattle.std.specs.Result.{IsErrOf};
 ghost use Rattle.outer_world.specs.Faults.{Rose};
 ghost use Rattle.command_words.specs.Command.{NumbersInRange};
 ghost use Rattle.command_words.specs.Options.{AreWorkers};
-ghost use Rattle.plan_solver.specs.Enclosures.{AreEnclosuresOf};
+ghost use Rattle.plan_solver.specs.SoundEnclosures.{AreEnclosuresBy};
 ghost use Rattle.hypercube_cli.specs.Meanings.{Meaning, texts_for};
 ghost use Rattle.hypercube_cli.specs.Commands.{meaning_of};
 ghost use Rattle.hypercube_cli.specs.Runs.{Answers};
@@ -15,6 +15,7 @@ mod finite;
 mod make;
 mod pairs;
 mod plan_task;
+mod reach;
 mod replay;
 mod solve;
 mod sweep;
@@ -25,11 +26,12 @@ use crate::stop::Stop;
 use command_words::Command;
 use compare::Compare;
 use finite::Finite;
-use hyper_model::{Enclosures, Plan};
+use hyper_model::{Enclosures, Method, Plan};
 use make::Make;
 use outer_world::Shelf;
 use pairs::Pairs;
 use plan_task::OfPlan;
+use reach::Reach;
 use replay::Replay;
 use solve::Solve;
 use std::alloc::{AllocError, Global};
@@ -45,16 +47,17 @@ pub(crate) trait Task {
     ghost in_range: { Self → Type 0 };
 
     /// What it comes to.
-    fn answer<S: Shelf, E: Fn(&[Plan], u32) -> Result<Vec<Enclosures>, AllocError>>(
+    fn answer<S: Shelf, E: Fn(&[Plan], Method, u32) -> Result<Vec<Enclosures>, AllocError>>(
         self,
         alloc: Global,
         shelf: &mut S,
         enclose: &E,
     ) -> Result<Answer, Stop>
         requires in_range { in_range self }
-        requires may_enclose { (plans : _) (workers : ℕ) → AreWorkers workers → E.pre enclose.now plans workers }
-        requires encloses { (plans : _) (workers : ℕ) (found : _) → E.post enclose.now plans workers found
-            → IfOk found (λ found. AreEnclosuresOf plans.now found.items) }
+        requires may_enclose { (plans : _) (method : _) (workers : ℕ) → AreWorkers workers
+            → E.pre enclose.now plans method workers }
+        requires encloses { (plans : _) (method : _) (workers : ℕ) (found : _)
+            → E.post enclose.now plans method workers found → IfOk found (λ found. AreEnclosuresBy method plans.now found.items) }
         ensures ending { IfSome (texts_for (meaning self) (S.told shelf.old)) (λ texts.
             Answers ((meaning self).ends texts) result) }
         ensures proved { IfSome (texts_for (meaning self) (S.told shelf.old)) (λ texts.
@@ -81,7 +84,7 @@ impl Task for Job {
     ghost in_range = { λ job. NumbersInRange job.command × AreWorkers job.processors };
 
     #[tactic(auto, unfolding(crate::specs::Commands::meaning_of))]
-    fn answer<S: Shelf, E: Fn(&[Plan], u32) -> Result<Vec<Enclosures>, AllocError>>(
+    fn answer<S: Shelf, E: Fn(&[Plan], Method, u32) -> Result<Vec<Enclosures>, AllocError>>(
         self,
         alloc: Global,
         shelf: &mut S,
@@ -97,11 +100,13 @@ impl Task for Job {
                 widths,
                 workers,
                 summary,
+                method,
             } => {
                 let task = Solve {
                     widths,
                     workers,
                     summary,
+                    method,
                 };
                 OfPlan { file, task }.answer(alloc, shelf, enclose)
             }
@@ -109,10 +114,12 @@ impl Task for Job {
                 study,
                 widths,
                 workers,
+                method,
             } => Compare {
                 study,
                 widths,
                 workers,
+                method,
             }
             .answer(alloc, shelf, enclose),
             Command::Make { units, number } => Make { units, number }.answer(alloc, shelf, enclose),
@@ -137,6 +144,10 @@ impl Task for Job {
                 OfPlan { file, task }.answer(alloc, shelf, enclose)
             }
             Command::Replay { file, day } => Replay { file, day }.answer(alloc, shelf, enclose),
+            Command::Reach { file, limits } => {
+                let task = Reach { limits };
+                OfPlan { file, task }.answer(alloc, shelf, enclose)
+            }
         }
     }
 }

@@ -6,7 +6,7 @@ ghost use Rattle.std.specs.Thread.{IsSync};
 ghost use Rattle.outer_world.specs.Faults.{Rose};
 ghost use Rattle.command_words.specs.Command.{command as command_of};
 ghost use Rattle.command_words.specs.Options.{AreWorkers};
-ghost use Rattle.plan_solver.specs.Enclosures.{AreEnclosuresOf};
+ghost use Rattle.plan_solver.specs.SoundEnclosures.{AreEnclosuresBy};
 ghost use Rattle.hypercube_cli.specs.Commands.{meaning_of};
 ghost use Rattle.hypercube_cli.specs.Endings.{usage_ending};
 ghost use Rattle.hypercube_cli.specs.Meanings.{texts_for};
@@ -22,7 +22,7 @@ use crate::lines::refusal_text;
 use crate::stop::Stop;
 use crate::tasks::{Job, Task};
 use command_words::{USAGE, WordsEnd, read_words};
-use hyper_model::{Enclosures, Plan};
+use hyper_model::{Enclosures, Method, Plan};
 use outer_world::{Shelf, Sink, WriteEnd, write_text};
 use rate_matrix::Gate;
 use std::alloc::{AllocError, Global};
@@ -109,10 +109,10 @@ fn answer_of<R: Threads + Sync, S: Shelf, G: Gate + Sync>(
     job.answer(
         alloc,
         shelf,
-        &|plans: &[Plan], workers: u32| -> Result<Vec<Enclosures>, AllocError>
+        &|plans: &[Plan], method: Method, workers: u32| -> Result<Vec<Enclosures>, AllocError>
             requires { IsSync R.row × IsSync G.row × AreWorkers workers }
-            ensures { IfOk result (λ found. AreEnclosuresOf plans.now found.items) }
-        { enclose(rt, alloc, plans, workers, gate) },
+            ensures { IfOk result (λ found. AreEnclosuresBy method plans.now found.items) }
+        { enclose(rt, alloc, plans, method, workers, gate) },
     )
 }
 

@@ -9,6 +9,17 @@ pub(crate) enum Operand {
     Measure,
     /// A number.
     Number(&'static Range),
+    /// Limits in seconds.
+    Limits,
+}
+
+/// What the value of an option is.
+#[derive(Clone, Copy)]
+pub(crate) enum OptionValue {
+    /// A number.
+    Number(&'static Range),
+    /// The word of a method.
+    Method,
 }
 
 /// A number of the command line.
@@ -21,6 +32,18 @@ pub(crate) struct Range {
     pub digits: usize,
     /// What has to stand there.
     pub wanted: &'static str,
+}
+
+impl Range {
+    /// The number that a word is, if it has so many digits at most and is in the range.
+    pub fn number_of(&self, word: &str) -> Option<u64> {
+        let is_short = !word.is_empty() && word.len() <= self.digits;
+        if !is_short || !word.bytes().all(|byte| byte.is_ascii_digit()) {
+            return None;
+        }
+        let number = word.parse::<u64>().ok()?;
+        (self.least <= number && number <= self.most).then_some(number)
+    }
 }
 
 /// A command.
@@ -42,11 +65,26 @@ pub(crate) struct OptionForm {
     pub pattern: &'static str,
     pub about: &'static str,
     /// What its value is, if it has one.
-    pub value: Option<&'static Range>,
+    pub value: Option<OptionValue>,
 }
 
 /// The words of the measures by which sites are tried.
 pub(crate) const SITE_MEASURES: &[&str] = &["loss", "delay", "interdistrict", "travel"];
+
+/// The words of the methods by which weights are found.
+pub(crate) const METHODS: &[&str] = &["elimination", "certificate"];
+
+/// The most limits.
+pub(crate) const MOST_LIMITS: usize = 16;
+
+/// A limit.
+pub(crate) const LIMIT: Range = Range {
+    word: "SECONDS",
+    least: 0,
+    most: 100_000,
+    digits: 6,
+    wanted: "a number from 0 to 100,000, of at most 6 digits",
+};
 
 const UNITS: Range = Range {
     word: "UNITS",
@@ -103,14 +141,20 @@ pub(crate) const COMMANDS: &[CommandForm] = &[
         pattern: "solve PLAN",
         about: "all measures of a plan",
         operands: &[Operand::File("plan")],
-        options: &["--width", "--time-width", "--workers", "--summary"],
+        options: &[
+            "--width",
+            "--time-width",
+            "--workers",
+            "--summary",
+            "--method",
+        ],
     },
     CommandForm {
         word: "compare",
         pattern: "compare STUDY",
         about: "2 to 16 plans, which a TOML file names, by 1 to 16 measures",
         operands: &[Operand::File("study")],
-        options: &["--width", "--time-width", "--workers"],
+        options: &["--width", "--time-width", "--workers", "--method"],
     },
     CommandForm {
         word: "make",
@@ -147,6 +191,13 @@ pub(crate) const COMMANDS: &[CommandForm] = &[
         operands: &[Operand::File("plan"), Operand::File("day")],
         options: &[],
     },
+    CommandForm {
+        word: "reach",
+        pattern: "reach PLAN SECONDS",
+        about: "which share of calls is reached in time: SECONDS is 1 to 16 numbers, as 240,480,720",
+        operands: &[Operand::File("plan"), Operand::Limits],
+        options: &[],
+    },
 ];
 
 /// All options, in the order of the help.
@@ -155,19 +206,19 @@ pub(crate) const OPTIONS: &[OptionForm] = &[
         name: "--width",
         pattern: "--width W",
         about: "how far the ends of a share may lie apart, in millionths: 2 to 999,999,999; default: any",
-        value: Some(&WIDTH),
+        value: Some(OptionValue::Number(&WIDTH)),
     },
     OptionForm {
         name: "--time-width",
         pattern: "--time-width W",
         about: "how far the ends of a time may, in thousandths of a second: 2 to 999,999,999; default: any",
-        value: Some(&WIDTH),
+        value: Some(OptionValue::Number(&WIDTH)),
     },
     OptionForm {
         name: "--workers",
         pattern: "--workers N",
         about: "how many processors share the work: 1 to 16; default: 1",
-        value: Some(&WORKERS),
+        value: Some(OptionValue::Number(&WORKERS)),
     },
     OptionForm {
         name: "--summary",
@@ -175,11 +226,17 @@ pub(crate) const OPTIONS: &[OptionForm] = &[
         about: "solve only: the measures of the whole region; default: all measures",
         value: None,
     },
+    OptionForm {
+        name: "--method",
+        pattern: "--method METHOD",
+        about: "how intervals are found: elimination or certificate; default: elimination",
+        value: Some(OptionValue::Method),
+    },
 ];
 
 /// The words of all commands.
 pub(crate) const COMMAND_WORDS: &[&str] = &[
-    "solve", "compare", "make", "finite", "pairs", "sweep", "replay",
+    "solve", "compare", "make", "finite", "pairs", "sweep", "replay", "reach",
 ];
 
 /// The names of all options, and the two words that ask for help.
@@ -188,6 +245,7 @@ pub(crate) const OPTION_NAMES: &[&str] = &[
     "--time-width",
     "--workers",
     "--summary",
+    "--method",
     "--help",
     "--version",
 ];

@@ -15,6 +15,7 @@ mod forms;
 mod grouped;
 mod help;
 mod kept;
+mod limit_faults;
 mod lines;
 mod list_faults;
 mod location_faults;

@@ -1,7 +1,9 @@
 use crate::arguments::{Arguments, Given};
 use crate::commands::{
-    COMMAND_WORDS, CommandForm, Operand, OptionForm, Range, SITE_MEASURES, command_named,
+    COMMAND_WORDS, CommandForm, METHODS, Operand, OptionForm, OptionValue, Range, SITE_MEASURES,
+    command_named,
 };
+use crate::limit_faults::limits_fault;
 use crate::near::nearest_word;
 use crate::quoted::Quoted;
 use std::alloc::{AllocError, Global};
@@ -98,6 +100,7 @@ fn operand_fault(
             Operand::Unit => unit_fault(alloc, word)?,
             Operand::Measure => measure_fault(alloc, word)?,
             Operand::Number(range) => number_fault(alloc, range.word, range, word)?,
+            Operand::Limits => limits_fault(alloc, word)?,
         };
         if fault.is_some() {
             return Ok(fault);
@@ -145,13 +148,7 @@ fn number_fault(
     range: &Range,
     word: &str,
 ) -> Result<Option<String>, AllocError> {
-    let is_short = !word.is_empty() && word.len() <= range.digits;
-    if is_short
-        && word.bytes().all(|byte| byte.is_ascii_digit())
-        && let Ok(number) = word.parse::<u64>()
-        && range.least <= number
-        && number <= range.most
-    {
+    if range.number_of(word).is_some() {
         return Ok(None);
     }
     let shown = Quoted(word.as_bytes());
@@ -202,9 +199,27 @@ fn value_fault(
 ) -> Result<Option<String>, AllocError> {
     let name = option.name;
     match (option.value, value) {
-        (Some(range), Some(value)) => number_fault(alloc, name, range, value),
-        (Some(_), None) => Ok(Some(format!(in alloc; "a number has to follow {name}.")?)),
+        (Some(OptionValue::Number(range)), Some(value)) => number_fault(alloc, name, range, value),
+        (Some(OptionValue::Number(_)), None) => {
+            Ok(Some(format!(in alloc; "a number has to follow {name}.")?))
+        }
+        (Some(OptionValue::Method), Some(value)) => method_fault(alloc, name, value),
+        (Some(OptionValue::Method), None) => {
+            Ok(Some(format!(in alloc; "elimination or certificate has to follow {name}.")?))
+        }
         (None, Some(_)) => Ok(Some(format!(in alloc; "{name} has no value.")?)),
         (None, None) => Ok(None),
     }
+}
+
+fn method_fault(
+    alloc: Global,
+    name: &'static str,
+    word: &str,
+) -> Result<Option<String>, AllocError> {
+    if METHODS.contains(&word) {
+        return Ok(None);
+    }
+    let shown = Quoted(word.as_bytes());
+    Ok(Some(format!(in alloc; "{name} is {shown}, and has to be elimination or certificate.")?))
 }

@@ -216,7 +216,33 @@ const NO_COMMANDS: &str = " \n\
     replay a.csv b.csv --summary\n\
     replay a.csv b.csv --width 2\n\
     replay --time-width=2 a.csv b.csv\n\
-    --workers 2 replay a.csv b.csv";
+    --workers 2 replay a.csv b.csv\n\
+    reach\n\
+    reach a.csv\n\
+    reach a.csv \n\
+    reach  480\n\
+    reach 480 a.csv\n\
+    reach a.csv 480 720\n\
+    Reach a.csv 480\n\
+    reach a.csv 480,\n\
+    reach a.csv ,480\n\
+    reach a.csv 240,,480\n\
+    reach a.csv 480,240\n\
+    reach a.csv 480,480\n\
+    reach a.csv 100001\n\
+    reach a.csv 0000480\n\
+    reach a.csv +480\n\
+    reach a.csv 8.5\n\
+    reach a.csv 240;480\n\
+    reach a.csv 1,2,3,4,5,6,7,8,9,10,11,12,13,14,15,16,17\n\
+    reach a.csv 480 --summary\n\
+    reach a.csv 480 --method elimination\n\
+    --workers 2 reach a.csv 480\n\
+    make 2 0 --method certificate\n\
+    finite a.csv 1 --method=certificate\n\
+    pairs a.csv 1 --method=elimination\n\
+    sweep a.csv A loss --method certificate\n\
+    replay a.csv b.csv --method certificate";
 
 #[test]
 fn plain_words_that_give_no_command(rt: HostRuntime) -> Result<(), Fail> {

@@ -20,6 +20,8 @@ mod meeting;
 #[cfg(test)]
 mod pairs;
 #[cfg(test)]
+mod reached;
+#[cfg(test)]
 mod reports;
 #[cfg(test)]
 mod same_bytes;

@@ -1,5 +1,6 @@
 use crate::commands::read;
 use crate::words::Asked::*;
+use hyper_model::Method;
 use hypercube_cli::{Command, Name255, WordsEnd};
 use report_text::Widths;
 use std::alloc::{AllocError, Global};
@@ -138,15 +139,45 @@ fn commands_with_their_options(rt: HostRuntime) -> Result<(), Fail> {
                 study: name,
                 widths,
                 workers,
+                method: Method::Elimination,
             },
             Solve | Summary => Command::Solve {
                 file: name,
                 widths,
                 workers,
                 summary: matches!(asked, Summary),
+                method: Method::Elimination,
             },
         };
         assert_eq!(rt; read(rt.alloc(), line)?, Ok(command), "{line}");
+    }
+    Ok(())
+}
+
+/// Arguments, and the method that they ask for.
+const METHODS: [(&str, Method); 6] = [
+    ("solve a.csv --method elimination", Method::Elimination),
+    ("solve a.csv --method certificate", Method::Certificate),
+    (
+        "--method=certificate solve a.csv --workers 2",
+        Method::Certificate,
+    ),
+    (
+        "solve a.csv --summary --method=certificate --",
+        Method::Certificate,
+    ),
+    ("compare s.toml --method certificate", Method::Certificate),
+    ("compare --method=elimination s.toml", Method::Elimination),
+];
+
+#[test]
+fn commands_with_a_method(rt: HostRuntime) -> Result<(), Fail> {
+    for (line, method) in METHODS {
+        let asked = match read(rt.alloc(), line)? {
+            Ok(Command::Solve { method, .. }) | Ok(Command::Compare { method, .. }) => Some(method),
+            _ => None,
+        };
+        assert_eq!(rt; asked, Some(method), "{line}");
     }
     Ok(())
 }
@@ -184,6 +215,13 @@ const BAD_OPTIONS: &str = "-x\n\
     --workers=one\n\
     --workers=2 --workers=2\n\
     --workers --workers 2\n\
+    --method\n\
+    --method=\n\
+    --method=Certificate\n\
+    --method certify\n\
+    --method=1\n\
+    --method certificate --method=certificate\n\
+    --method certificate --method elimination\n\
     --summary=\n\
     --summary=yes\n\
     --summary yes\n\

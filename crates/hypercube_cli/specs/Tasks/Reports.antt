@@ -1,9 +1,11 @@
 -- What it means to solve a plan: its report, or the first measure whose ends lie further apart than was asked.
-use Rattle.std.specs.Prelude.{ℕ, Bool, List, Option, Some, None}
+use Rattle.std.specs.Prelude.{◌≡◌, ℕ, Bool, List, Option, Some, None}
 use Rattle.hyper_model.specs.declared.kinds.Enclosed.{Enclosed}
 use Rattle.hyper_model.specs.declared.kinds.Found.{Found}
 use Rattle.hyper_model.specs.declared.kinds.Found.TheVariants as found
 use Rattle.hyper_model.specs.declared.kinds.Measure.{Measure}
+use Rattle.hyper_model.specs.declared.kinds.Method.{Method}
+use Rattle.hyper_model.specs.declared.kinds.Method.TheVariants as method
 use Rattle.hyper_model.specs.declared.parts.PlanParts.{PlanParts}
 use Rattle.hyper_model.specs.Laws.{HavePositiveDenominators}
 use Rattle.hyper_model.specs.Measures.{ContainsSolutions}
@@ -13,8 +15,9 @@ use Rattle.report_text.specs.Labels.{label_bytes}
 use Rattle.report_text.specs.Reports.{report_bytes}
 use Rattle.report_text.specs.TooWide.{first_wide}
 use Rattle.plan_solver.specs.Enclosures.{IsEnclosureOf}
+use Rattle.plan_solver.specs.SoundEnclosures.{IsEnclosureBy}
 use Rattle.hypercube_cli.specs.Endings.{Ending, done_ending, wide_ending}
-use Rattle.hypercube_cli.specs.ListEndings.{IsEndingOfList, IsTextOfList}
+use Rattle.hypercube_cli.specs.ListEndings.{IsEndingOfList}
 use Rattle.hypercube_cli.specs.Meanings.{Meaning}
 use Rattle.hypercube_cli.specs.Tasks.Plans.{plan_meaning}
 
@@ -33,17 +36,21 @@ report_ending p widths summary items =
     unless_wide p (first_wide widths summary items) (done_ending (report_bytes p items summary))
 
 -- the ending for a plan, whose measures have the ends of the method
-abbrev pub IsReported : PlanParts → Widths → Bool → Ending → Type 0
-IsReported p widths summary = IsEndingOfList (IsEnclosureOf p) (report_ending p widths summary)
+abbrev pub IsReported : PlanParts → Method → Widths → Bool → Ending → Type 0
+IsReported p m widths summary = IsEndingOfList (IsEnclosureBy m p) (report_ending p widths summary)
 
--- The text is the report, or the summary, of this plan. Its balance equations have a solution. There is one list of
--- measures with the ends of the method, and for each solution these contain what Larson's formulas give: a ratio whose
--- denominator is positive.
-pub record IsTrueReport (p : PlanParts) (summary : Bool) (text : List ℕ) : Type 0 where
+-- The text is the report, or the summary, of this plan. Its balance equations have a solution. The measures have the ends
+-- of the method, by elimination in one list only, and for each solution these contain what Larson's formulas give: a ratio
+-- whose denominator is positive.
+pub record IsTrueReport (p : PlanParts) (m : Method) (summary : Bool) (text : List ℕ) : Type 0 where
   pub solvable : HasSolution p
   pub positive : HavePositiveDenominators p
-  pub contains : IsTextOfList (IsEnclosureOf p) (λ items. report_bytes p items summary) (ContainsSolutions p) text
+  pub items : List Enclosed
+  pub enclosed : IsEnclosureBy m p items
+  pub alone : m ≡ method.Elimination → (others : List Enclosed) → IsEnclosureOf p others → others ≡ items
+  pub written : text ≡ report_bytes p items summary
+  pub contains : ContainsSolutions p items
 
-abbrev pub solve_meaning : List ℕ → Widths → Bool → Meaning
-solve_meaning file widths summary =
-    plan_meaning file (λ plan. IsReported plan widths summary) (λ plan. IsTrueReport plan summary)
+abbrev pub solve_meaning : List ℕ → Widths → Bool → Method → Meaning
+solve_meaning file widths summary m =
+    plan_meaning file (λ plan. IsReported plan m widths summary) (λ plan. IsTrueReport plan m summary)

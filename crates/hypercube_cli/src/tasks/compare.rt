@@ -3,7 +3,7 @@ ghost use Rattle.std.specs.Result.{IsErrOf};
 ghost use Rattle.outer_world.specs.Faults.{Rose};
 ghost use Rattle.hyper_model.specs.Plans.{IsAccepted};
 ghost use Rattle.command_words.specs.Options.{AreWorkers};
-ghost use Rattle.plan_solver.specs.Enclosures.{AreEnclosuresOf};
+ghost use Rattle.plan_solver.specs.SoundEnclosures.{AreEnclosuresBy};
 ghost use Rattle.hypercube_cli.specs.Readings.{ReachesAs};
 ghost use Rattle.hypercube_cli.specs.Stops.{IsOfCommand};
 ghost use Rattle.hypercube_cli.specs.Tasks.Comparisons.{IsCompared, IsTrueComparison, compare_meaning, plans_from, study_in};
@@ -14,7 +14,7 @@ use crate::stop::Stop;
 use crate::tasks::Task;
 use crate::{Outcome, Refusal};
 use command_words::Name255;
-use hyper_model::{Enclosures, Plan, law_accepted};
+use hyper_model::{Enclosures, Method, Plan, law_accepted};
 use outer_world::Shelf;
 use plan_compare::{
     CompareEnd, Study, StudyRefusal, VerdictList, comparison, read_study, verdicts,
@@ -28,14 +28,15 @@ pub(crate) struct Compare {
     pub study: Name255,
     pub widths: Widths,
     pub workers: u32,
+    pub method: Method,
 }
 
 impl Task for Compare {
-    ghost meaning = { λ task. compare_meaning task.study task.widths };
+    ghost meaning = { λ task. compare_meaning task.study task.widths task.method };
 
     ghost in_range = { λ task. AreWorkers task.workers };
 
-    fn answer<S: Shelf, E: Fn(&[Plan], u32) -> Result<Vec<Enclosures>, AllocError>>(
+    fn answer<S: Shelf, E: Fn(&[Plan], Method, u32) -> Result<Vec<Enclosures>, AllocError>>(
         self,
         alloc: Global,
         shelf: &mut S,
@@ -43,8 +44,14 @@ impl Task for Compare {
     ) -> Result<Answer, Stop> {
         let study = read_named(alloc, shelf, &StudyText, self.study.text())?;
         let plans = read_plans(alloc, shelf, &study)?;
-        let found = enclose(&plans, self.workers)?;
-        Ok(comparison_answer(alloc, &study, &plans, &found, self.widths)?)
+        let Compare {
+            widths,
+            workers,
+            method,
+            ..
+        } = self;
+        let found = enclose(&plans, method, workers)?;
+        Ok(comparison_answer(alloc, &study, &plans, &found, method, widths)?)
     }
 }
 
@@ -107,13 +114,15 @@ fn comparison_answer(
     study: &Study,
     plans: &[Plan],
     found: &[Enclosures],
+    method: Method,
     widths: Widths,
 ) -> Result<Answer, AllocError>
     requires one_each { length plans.now ≡ length study.now.plans }
-    requires enclosed { AreEnclosuresOf plans.now found.now }
-    ensures ending { IfOk result (λ answer. IsCompared plans.now study.now widths answer) }
+    requires accepted { All IsAccepted plans.now }
+    requires enclosed { AreEnclosuresBy method plans.now found.now }
+    ensures ending { IfOk result (λ answer. IsCompared plans.now method study.now widths answer) }
     ensures proved { IfOk result (λ answer. answer.outcome ≡ Outcome.Done
-        → IsTrueComparison study.now plans.now answer.text) }
+        → IsTrueComparison method study.now plans.now answer.text) }
 {
     let mut list = VerdictList::reserved(alloc, study)?;
     verdicts(study, found, &mut list);

@@ -6,7 +6,7 @@ use crate::answer::Answer;
 use crate::stop::Stop;
 use crate::tasks::plan_task::PlanTask;
 use finite_line::{check_finite, enclose_finite, finite_text};
-use hyper_model::{Enclosures, Plan};
+use hyper_model::{Enclosures, Method, Plan};
 use std::alloc::{AllocError, Global};
 
 /// Reports the measures of a plan with a limited number of waiting places, or why it can have none.
@@ -22,7 +22,7 @@ impl PlanTask for Finite {
 
     ghost in_range = { λ task. ArePlaces task.places };
 
-    fn answer_for<E: Fn(&[Plan], u32) -> Result<Vec<Enclosures>, AllocError>>(
+    fn answer_for<E: Fn(&[Plan], Method, u32) -> Result<Vec<Enclosures>, AllocError>>(
         self,
         alloc: Global,
         plan: Plan,

@@ -4,7 +4,7 @@ use crate::Refusal;
 use crate::answer::Answer;
 use crate::stop::Stop;
 use crate::tasks::Task;
-use hyper_model::{Enclosures, Plan};
+use hyper_model::{Enclosures, Method, Plan};
 use outer_world::Shelf;
 use plan_maker::{MakeRefusal, make};
 use std::alloc::{AllocError, Global};
@@ -21,7 +21,7 @@ impl Task for Make {
 
     ghost in_range = { λ _. Unit {0} };
 
-    fn answer<S: Shelf, E: Fn(&[Plan], u32) -> Result<Vec<Enclosures>, AllocError>>(
+    fn answer<S: Shelf, E: Fn(&[Plan], Method, u32) -> Result<Vec<Enclosures>, AllocError>>(
         self,
         alloc: Global,
         _shelf: &mut S,

@@ -5,7 +5,7 @@ use crate::Refusal;
 use crate::answer::Answer;
 use crate::stop::Stop;
 use crate::tasks::plan_task::PlanTask;
-use hyper_model::{Enclosures, Plan};
+use hyper_model::{Enclosures, Method, Plan};
 use pair_dispatch::{check_pairs, enclose_pairs, pair_text};
 use std::alloc::{AllocError, Global};
 
@@ -22,7 +22,7 @@ impl PlanTask for Pairs {
 
     ghost in_range = { λ task. task.percent ≤ 100 };
 
-    fn answer_for<E: Fn(&[Plan], u32) -> Result<Vec<Enclosures>, AllocError>>(
+    fn answer_for<E: Fn(&[Plan], Method, u32) -> Result<Vec<Enclosures>, AllocError>>(
         self,
         alloc: Global,
         plan: Plan,

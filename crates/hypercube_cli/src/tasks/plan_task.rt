@@ -2,7 +2,7 @@ ghost use Rattle.std.specs.Prelude.{◌≡◌, ◌≤◌, ℕ, List, IfErr, IfOk
 ghost use Rattle.hyper_model.specs.Plans.{IsAccepted};
 ghost use Rattle.hyper_model.specs.declared.parts.PlanParts.{PlanParts};
 ghost use Rattle.command_words.specs.Options.{AreWorkers};
-ghost use Rattle.plan_solver.specs.Enclosures.{AreEnclosuresOf};
+ghost use Rattle.plan_solver.specs.SoundEnclosures.{AreEnclosuresBy};
 ghost use Rattle.hypercube_cli.specs.Endings.{Ending};
 ghost use Rattle.hypercube_cli.specs.Runs.{Answers};
 ghost use Rattle.hypercube_cli.specs.Stops.{IsOfReading};
@@ -14,7 +14,7 @@ use crate::reading::{PlanText, read_named};
 use crate::stop::Stop;
 use crate::tasks::Task;
 use command_words::Name255;
-use hyper_model::{Enclosures, Plan, law_accepted};
+use hyper_model::{Enclosures, Method, Plan, law_accepted};
 use outer_world::Shelf;
 use std::alloc::{AllocError, Global};
 
@@ -28,7 +28,7 @@ pub(crate) trait PlanTask {
     ghost in_range: { Self → Type 0 };
 
     /// What it comes to for this plan.
-    fn answer_for<E: Fn(&[Plan], u32) -> Result<Vec<Enclosures>, AllocError>>(
+    fn answer_for<E: Fn(&[Plan], Method, u32) -> Result<Vec<Enclosures>, AllocError>>(
         self,
         alloc: Global,
         plan: Plan,
@@ -36,9 +36,10 @@ pub(crate) trait PlanTask {
     ) -> Result<Answer, Stop>
         requires in_range { in_range self }
         requires accepted { IsAccepted plan }
-        requires may_enclose { (plans : _) (workers : ℕ) → AreWorkers workers → E.pre enclose.now plans workers }
-        requires encloses { (plans : _) (workers : ℕ) (found : _) → E.post enclose.now plans workers found
-            → IfOk found (λ found. AreEnclosuresOf plans.now found.items) }
+        requires may_enclose { (plans : _) (method : _) (workers : ℕ) → AreWorkers workers
+            → E.pre enclose.now plans method workers }
+        requires encloses { (plans : _) (method : _) (workers : ℕ) (found : _)
+            → E.post enclose.now plans method workers found → IfOk found (λ found. AreEnclosuresBy method plans.now found.items) }
         ensures ending { Answers (ends self plan) result }
         ensures proved { IfOk result (λ answer. answer.outcome ≡ Outcome.Done → proves self plan answer.text) }
         ensures stop { IfErr result IsOfReading };
@@ -56,7 +57,7 @@ impl<T: PlanTask + Drop> Task for OfPlan<T> {
 
     ghost in_range = { λ asked. T.in_range asked.task };
 
-    fn answer<S: Shelf, E: Fn(&[Plan], u32) -> Result<Vec<Enclosures>, AllocError>>(
+    fn answer<S: Shelf, E: Fn(&[Plan], Method, u32) -> Result<Vec<Enclosures>, AllocError>>(
         self,
         alloc: Global,
         shelf: &mut S,

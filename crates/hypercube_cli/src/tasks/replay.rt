@@ -3,7 +3,7 @@ ghost use Rattle.std.specs.Result.{IsErrOf};
 ghost use Rattle.outer_world.specs.Faults.{Rose};
 ghost use Rattle.hyper_model.specs.Plans.{IsAccepted};
 ghost use Rattle.command_words.specs.Options.{AreWorkers};
-ghost use Rattle.plan_solver.specs.Enclosures.{AreEnclosuresOf};
+ghost use Rattle.plan_solver.specs.SoundEnclosures.{AreEnclosuresBy};
 ghost use Rattle.day_replay.specs.Days.{IsDayOf};
 ghost use Rattle.day_replay.specs.Played.{IsReplayOf};
 ghost use Rattle.hypercube_cli.specs.Endings.{EndsFrom};
@@ -18,7 +18,7 @@ use crate::stop::Stop;
 use crate::tasks::Task;
 use command_words::Name255;
 use day_replay::{Day, DayRefusal, Played, ReplayEnd, read_day, replay, replay_text};
-use hyper_model::{Enclosures, Plan, law_accepted};
+use hyper_model::{Enclosures, Method, Plan, law_accepted};
 use outer_world::{MOST_SHELF_NAME_BYTES, Shelf};
 use std::alloc::{AllocError, Global};
 
@@ -34,7 +34,7 @@ impl Task for Replay {
 
     ghost in_range = { λ _. Unit {0} };
 
-    fn answer<S: Shelf, E: Fn(&[Plan], u32) -> Result<Vec<Enclosures>, AllocError>>(
+    fn answer<S: Shelf, E: Fn(&[Plan], Method, u32) -> Result<Vec<Enclosures>, AllocError>>(
         self,
         alloc: Global,
         shelf: &mut S,
@@ -75,7 +75,7 @@ impl<'a> Readable for DayText<'a> {
 }
 
 /// Replays the day of this name.
-fn day_answer<S: Shelf, E: Fn(&[Plan], u32) -> Result<Vec<Enclosures>, AllocError>>(
+fn day_answer<S: Shelf, E: Fn(&[Plan], Method, u32) -> Result<Vec<Enclosures>, AllocError>>(
     alloc: Global,
     shelf: &mut S,
     plan: Plan,
@@ -84,9 +84,10 @@ fn day_answer<S: Shelf, E: Fn(&[Plan], u32) -> Result<Vec<Enclosures>, AllocErro
 ) -> Result<Answer, Stop>
     requires accepted { IsAccepted plan }
     requires name { length name.now ≤ MOST_SHELF_NAME_BYTES }
-    requires may_enclose { (plans : _) (workers : ℕ) → AreWorkers workers → E.pre enclose.now plans workers }
-    requires encloses { (plans : _) (workers : ℕ) (found : _) → E.post enclose.now plans workers found
-        → IfOk found (λ found. AreEnclosuresOf plans.now found.items) }
+    requires may_enclose { (plans : _) (method : _) (workers : ℕ) → AreWorkers workers
+        → E.pre enclose.now plans method workers }
+    requires encloses { (plans : _) (method : _) (workers : ℕ) (found : _)
+        → E.post enclose.now plans method workers found → IfOk found (λ found. AreEnclosuresBy method plans.now found.items) }
     ensures ending { IfSome (S.told shelf.old) (λ texts.
         Answers (EndsFrom (day_at texts plan name.now) (IsReplayed plan)) result) }
     ensures proved { IfSome (S.told shelf.old) (λ texts.
@@ -102,16 +103,17 @@ fn day_answer<S: Shelf, E: Fn(&[Plan], u32) -> Result<Vec<Enclosures>, AllocErro
 }
 
 /// Replays a day, which is refused if it frees a unit that is not busy.
-fn replay_answer<E: Fn(&[Plan], u32) -> Result<Vec<Enclosures>, AllocError>>(
+fn replay_answer<E: Fn(&[Plan], Method, u32) -> Result<Vec<Enclosures>, AllocError>>(
     alloc: Global,
     plan: Plan,
     day: &Day,
     enclose: &E,
 ) -> Result<Answer, Stop>
     requires form { IsDayOf plan day.now }
-    requires may_enclose { (plans : _) (workers : ℕ) → AreWorkers workers → E.pre enclose.now plans workers }
-    requires encloses { (plans : _) (workers : ℕ) (found : _) → E.post enclose.now plans workers found
-        → IfOk found (λ found. AreEnclosuresOf plans.now found.items) }
+    requires may_enclose { (plans : _) (method : _) (workers : ℕ) → AreWorkers workers
+        → E.pre enclose.now plans method workers }
+    requires encloses { (plans : _) (method : _) (workers : ℕ) (found : _)
+        → E.post enclose.now plans method workers found → IfOk found (λ found. AreEnclosuresBy method plans.now found.items) }
     ensures ending { Answers (IsReplayed plan day.now) result }
     ensures proved { IfOk result (λ answer. IsReplayText plan day.now answer.text) }
     ensures stop { IfErr result IsOfReading }
@@ -127,19 +129,20 @@ fn replay_answer<E: Fn(&[Plan], u32) -> Result<Vec<Enclosures>, AllocError>>(
 }
 
 /// The text of a replayed day.
-fn played_text<E: Fn(&[Plan], u32) -> Result<Vec<Enclosures>, AllocError>>(
+fn played_text<E: Fn(&[Plan], Method, u32) -> Result<Vec<Enclosures>, AllocError>>(
     alloc: Global,
     plan: Plan,
     played: &Played,
     enclose: &E,
 ) -> Result<Vec<u8>, AllocError>
     requires played { IsReplayOf plan played.now }
-    requires may_enclose { (plans : _) (workers : ℕ) → AreWorkers workers → E.pre enclose.now plans workers }
-    requires encloses { (plans : _) (workers : ℕ) (found : _) → E.post enclose.now plans workers found
-        → IfOk found (λ found. AreEnclosuresOf plans.now found.items) }
+    requires may_enclose { (plans : _) (method : _) (workers : ℕ) → AreWorkers workers
+        → E.pre enclose.now plans method workers }
+    requires encloses { (plans : _) (method : _) (workers : ℕ) (found : _)
+        → E.post enclose.now plans method workers found → IfOk found (λ found. AreEnclosuresBy method plans.now found.items) }
     ensures { IfOk result (λ text. IsTextOfPlayed plan played.now text.items) }
 {
     let plans = [plan];
-    let found = enclose(&plans, 1)?;
+    let found = enclose(&plans, Method::Elimination, 1)?;
     replay_text(alloc, &plans[0], played, &found[0])
 }

@@ -11,7 +11,7 @@ use crate::answer::Answer;
 use crate::stop::Stop;
 use crate::tasks::plan_task::PlanTask;
 use command_words::Name255;
-use hyper_model::{Enclosures, Measure, Plan};
+use hyper_model::{Enclosures, Measure, Method, Plan};
 use site_sweep::{find_unit, sweep_text, sweep_with};
 use std::alloc::{AllocError, Global};
 
@@ -30,7 +30,7 @@ impl PlanTask for Sweep {
 
     ghost in_range = { λ task. (is_of_region task.measure ≡ true) × AreWorkers task.workers };
 
-    fn answer_for<E: Fn(&[Plan], u32) -> Result<Vec<Enclosures>, AllocError>>(
+    fn answer_for<E: Fn(&[Plan], Method, u32) -> Result<Vec<Enclosures>, AllocError>>(
         self,
         alloc: Global,
         plan: Plan,
@@ -40,7 +40,17 @@ impl PlanTask for Sweep {
             Ok(unit) => unit,
             Err(refusal) => return Err(Stop::Refused(Refusal::Sweep(refusal))),
         };
-        let sites = sweep_with(alloc, &plan, unit, self.measure, self.workers, enclose)?;
+        let sites = sweep_with(
+            alloc,
+            &plan,
+            unit,
+            self.measure,
+            self.workers,
+            &|plans: &[Plan], workers: u32| -> Result<Vec<Enclosures>, AllocError>
+                requires { E.pre enclose.now plans Method.Elimination workers }
+                ensures { E.post enclose.entry.now plans.entry Method.Elimination workers result }
+            { enclose(plans, Method::Elimination, workers) },
+        )?;
         Ok(Answer::of_text(sweep_text(alloc, &plan, unit, self.measure, &sites)?))
     }
 }

@@ -25,3 +25,7 @@ returns-in-Sweep-clause-proved g c = proved_as (g.S.Shelf.told c.args.shelf.now)
 pub returns-in-Replay-clause-proved : goal.returns-in-Replay-clause-proved
 unfolding meaning_of
 returns-in-Replay-clause-proved g c = proved_as (g.S.Shelf.told c.args.shelf.now) c.answer-in-Replay.result c.in-Replay.is c.answer-in-Replay.ensures.proved
+
+pub returns-in-Reach-clause-proved : goal.returns-in-Reach-clause-proved
+unfolding meaning_of
+returns-in-Reach-clause-proved g c = proved_as (g.S.Shelf.told c.args.shelf.now) c.answer-in-Reach.result c.in-Reach.is c.answer-in-Reach.ensures.proved
