@@ -1,0 +1,11 @@
+pub mod Lumps
+pub mod Stations
+pub mod Standing
+pub mod StateMeasures
+pub mod CrewMeasures
+pub mod Laws
+pub mod Expanded
+pub mod FleetLaws
+pub mod StateFlows
+pub mod Spreads
+pub mod OneCrew
