@@ -7,6 +7,8 @@ words. With an argument every entry and weight is printed as well. It shares no 
 A digest takes the low and the high end of each entry between different states, row by row, or of each weight. For each
 end, what stood before is turned left by 7 of its 64 bits and multiplied by 1,000,003, and the end is added, modulo 2^64.
 """
+import csv
+import io
 import sys
 
 WHOLE = 2**62
@@ -15,7 +17,7 @@ SHARES = 27720
 
 
 def records(text):
-    rows = ([field.strip() for field in line.split(",")] for line in text.lstrip("\ufeff").splitlines())
+    rows = ([field.strip() for field in row] for row in csv.reader(io.StringIO(text.lstrip("\ufeff"), newline="")))
     for row in rows:
         while row and not row[-1]:
             row.pop()

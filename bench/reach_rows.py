@@ -246,29 +246,57 @@ def decimal(end):
     return f"{end // MILLION}.{end % MILLION:06}"
 
 
+def wanted(text, limits):
+    """What has to be written of a plan, and of each row, by its fields, the shares that it has to hold; None if it has none."""
+    scene = Scene(text)
+    parts, truth = Parts(scene), Truth(scene)
+    timely = [Timely(scene, parts, limit) for limit in limits]
+    found = zip(*(truth.shares(limit) for limit in limits), strict=True)
+    rows = ["reach,1", "seconds," + ",".join(map(str, limits))]
+    names = {"atom": list(scene.atom), "unit": list(scene.unit), "district": list(scene.unit)}
+    shares = {}
+    for (kind, of), values in zip(scene.subjects(), found, strict=True):
+        label = (kind,) if of is None else (kind, names[kind][of])
+        shares[label] = None if None in values else list(values)
+        ends = [decimal(end) for one in timely for end in one.ends(kind, of)] if shares[label] else ["none"]
+        rows.append(",".join([*label, *ends]))
+    return "\n".join([*rows, "end", ""]), shares
+
+
+def rows_of(written):
+    """The ends of each row of a text, in millionths, by its fields; None for `none`."""
+    for line in written.splitlines()[2:-1]:
+        fields = line.split(",")
+        label = tuple(fields[:1 if fields[0] in ("region", "all", "at-once") else 2])
+        ends = fields[len(label):]
+        yield label, None if ends == ["none"] else [int(end.replace(".", "")) for end in ends]
+
+
+def faults(written, shares):
+    """What of a written text is not true of the shares themselves, or falls as the limit grows."""
+    for label, ends in rows_of(written):
+        name, values = ",".join(label), shares[label]
+        if ends is None or values is None:
+            if ends is not values:
+                yield f"{name} has a share, or has none"
+            continue
+        lows, highs = ends[0::2], ends[1::2]
+        for lo, hi, value in zip(lows, highs, values, strict=True):
+            if not lo - SLACK <= MILLION * Fraction(value) <= hi + SLACK:
+                yield f"{name} is {float(value)}, and not from {lo} to {hi}"
+        if any(one != sorted(one) for one in (lows, highs)) or any(a > b and a - b > SLACK for a, b in zip(values, values[1:])):
+            yield f"{name} falls"
+
+
 def main(word):
     limits = limits_of(word)
     if limits is None:
         raise SystemExit("reach_rows.py: no command")
-    scene = Scene(sys.stdin.read())
-    parts, truth = Parts(scene), Truth(scene)
-    timely = [Timely(scene, parts, limit) for limit in limits]
-    shares = [list(truth.shares(limit)) for limit in limits]
-    print("reach,1", "seconds," + ",".join(str(limit) for limit in limits), sep="\n")
-    names = {"atom": list(scene.atom), "unit": list(scene.unit), "district": list(scene.unit)}
-    for place, (kind, of) in enumerate(scene.subjects()):
-        label = [kind] if of is None else [kind, names[kind][of]]
-        if kind == "district" and not scene.district_calls(of):
-            print(*label, "none", sep=",")
-            continue
-        fields = []
-        for one, found in zip(timely, shares, strict=True):
-            lo, hi = one.ends(kind, of)
-            if not lo - SLACK <= MILLION * Fraction(found[place]) <= hi + SLACK:
-                raise SystemExit(f"reach_rows.py: {','.join(label)} is {float(found[place])}, and not from {lo} to {hi}")
-            fields += [decimal(lo), decimal(hi)]
-        print(*label, *fields, sep=",")
-    print("end")
+    text, shares = wanted(sys.stdin.read(), limits)
+    print(text, end="")
+    wrong = list(faults(text, shares))
+    if wrong:
+        raise SystemExit("reach_rows.py: " + "; ".join(wrong))
 
 
 if __name__ == "__main__":
