@@ -9,8 +9,9 @@ from .faults import Fault
 
 PERIODS = {"hour": 3600, "day": 86_400, "week": 604_800, "year": 31_536_000}
 ENDINGS = (".svg", ".png", ".pdf")
+METHODS = ("elimination", "certificate")
 # Of each picture: whether it needs a plan's text for the map.
-PICTURES = {"workload": False, "dispatch": False, "travel": True, "comparison": False, "sweep": True}
+PICTURES = {"workload": False, "dispatch": False, "travel": True, "comparison": False, "sweep": True, "reach": False}
 
 
 def main(words: list[str]) -> int:
@@ -107,6 +108,7 @@ def add_many(commands: "argparse._SubParsersAction[argparse.ArgumentParser]") ->
                          help="where the texts and the tables go; the same command goes on after an interrupt")
     command.add_argument("--program", default="hypercube", help="the program (default: hypercube)")
     command.add_argument("--full", action="store_true", help="whole reports, and not only the measures of the region")
+    command.add_argument("--method", choices=METHODS, help="how the program finds intervals (default: its own)")
     command.add_argument("--jobs", default="100%", help="how many runs at once, as GNU parallel counts them (default: 100%%)")
     command.add_argument("--hosts", metavar="HOSTS", help="hosts that share the runs, as of GNU parallel's --sshlogin; "
                          "the plans are sent there, and the program has to be installed there")
@@ -145,6 +147,8 @@ def picture(asked: argparse.Namespace) -> None:
             drawn = pictures.comparison(rows, asked.names)
         case "travel":
             drawn = pictures.travel(rows, map_of(read(asked.plan)))
+        case "reach":
+            drawn = pictures.reached(rows)
         case _:
             drawn = pictures.sites(rows, map_of(read(asked.plan)))
     pictures.save(drawn, asked.output)
@@ -153,8 +157,8 @@ def picture(asked: argparse.Namespace) -> None:
 def many(asked: argparse.Namespace) -> None:
     from .many import Study, plans_of, run
     spread = ["--sshlogin", asked.hosts, "--transferfile", "{}", "--cleanup"] if asked.hosts else []
-    study = Study(asked.study, plans_of(asked.plans), [asked.program, "solve"], [] if asked.full else ["--summary"],
-                  ["--jobs", asked.jobs, *spread])
+    options = [*([] if asked.full else ["--summary"]), *(["--method", asked.method] if asked.method else [])]
+    study = Study(asked.study, plans_of(asked.plans), [asked.program, "solve"], options, ["--jobs", asked.jobs, *spread])
     rows = run(study)
     failed = rows.loc[rows["measure"] == "failed", "plan"]
     say(f"{len(study.plans)} plans, of which {len(failed)} failed; see table.csv and ranks.csv in {study.folder}")

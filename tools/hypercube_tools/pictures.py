@@ -1,10 +1,12 @@
-"""Pictures of what the program writes: workloads, who answers whose calls, travel times, comparisons and sites."""
+"""Pictures of what the program writes: workloads, who answers whose calls, travel times, comparisons, sites, and the calls that
+are reached in time."""
 import math
 import pathlib
 
 import matplotlib
 import numpy
 import pandas
+from matplotlib import colormaps
 from matplotlib.axes import Axes
 from matplotlib.figure import Figure
 from matplotlib.ticker import MaxNLocator, PercentFormatter
@@ -20,6 +22,9 @@ UNIT_AREA = 60
 # Intervals of a share that are narrower than this are drawn as one value.
 NARROW = 0.001
 MOST_NUMBERS = 40
+MOST_TICKS = 8
+# Of units that share a line, so many are named.
+MOST_NAMES = 3
 PERCENT = PercentFormatter(1.0)
 # Under a number that may stand on a line.
 PAPER = {"facecolor": "white", "edgecolor": "none", "pad": 1.0}
@@ -222,6 +227,57 @@ def set_span(axes: Axes, low: float, high: float) -> None:
     axes.set_xlim(middle_point - span / 2, middle_point + span / 2)
     axes.xaxis.set_major_locator(MaxNLocator(4, prune="both"))
     axes.tick_params(axis="x", labelsize=9)
+
+
+def reached(table: pandas.DataFrame) -> Figure:
+    """The share of the answered calls that are reached, over the time: of the region, and of each unit's. A dot is the middle of
+    an interval, and the band about it the interval, if it is wide enough to be seen. Lines only lead from dot to dot. Units with
+    the same ends throughout, as crews of one station, have one line."""
+    region, units = rows_of(table, "region"), rows_of(table, "unit")
+    figure, axes = one_panel(8.4, 4.8)
+    lines = alike(units)
+    colours = colormaps["tab10" if len(lines) <= 10 else "tab20"]
+    for place, names in enumerate(lines):
+        draw_reached(axes, units[units["subject"] == names[0]], together(names), colours(place), 1.2)
+    draw_reached(axes, region, "region", DARK, 3)
+    minutes = sorted(region["second"].astype(float) / 60)
+    axes.set_xlim(0, 1.06 * max(minutes[-1], 0.1))
+    axes.set_ylim(0, 1.02)
+    axes.set_xticks(minutes if len(minutes) <= MOST_TICKS else MaxNLocator(MOST_TICKS).tick_values(0, minutes[-1]))
+    axes.xaxis.set_major_formatter(lambda value, _: clock(value))
+    axes.yaxis.set_major_formatter(PERCENT)
+    axes.grid(color="#e6e6e6")
+    axes.set_xlabel("Travel time in minutes")
+    axes.set_ylabel("Share of answered calls reached")
+    handles, labels = axes.get_legend_handles_labels()
+    axes.legend(handles[-1:] + handles[:-1], labels[-1:] + labels[:-1], loc="center left", bbox_to_anchor=(1, 0.5), frameon=False,
+                fontsize=9)
+    return figure
+
+
+def alike(units: pandas.DataFrame) -> list[list[str]]:
+    """The names of units that have the same ends for all numbers, in their order."""
+    found: dict[tuple[float, ...], list[str]] = {}
+    for name, rows in units.groupby("subject", sort=False):
+        found.setdefault((*rows["low"], *rows["high"]), []).append(str(name))
+    return list(found.values())
+
+
+def together(names: list[str]) -> str:
+    return ",\n".join(names) if len(names) <= MOST_NAMES else f"{names[0]} and {len(names) - 1} others"
+
+
+def draw_reached(axes: Axes, rows: pandas.DataFrame, name: str, colour: str | tuple[float, ...], width: float) -> None:
+    rows = rows.assign(minutes=rows["second"].astype(float) / 60)
+    axes.fill_between(rows["minutes"], rows["low"], rows["high"], color=colour, alpha=0.3, linewidth=0)
+    axes.vlines(rows["minutes"], rows["low"], rows["high"], color=colour, alpha=0.3, linewidth=6)
+    axes.plot(rows["minutes"], middle(rows), marker="o", markersize=2 + 1.5 * width, color=colour, linewidth=width, label=name)
+
+
+def clock(minutes: float) -> str:
+    """Minutes, and seconds if there are some."""
+    whole, left = divmod(round(60 * minutes), 60)
+    return f"{whole}:{left:02}" if left else str(whole)
 
 
 def plan_name(subject: str, names: list[str]) -> str:

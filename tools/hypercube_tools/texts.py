@@ -1,4 +1,4 @@
-"""What the program writes, as a tidy table: reports, comparisons, and the texts of finite, pairs, sweep and replay."""
+"""What the program writes, as a tidy table: reports, comparisons, and the texts of finite, pairs, sweep, replay and reach."""
 import csv
 import io
 from dataclasses import astuple, dataclass, fields
@@ -40,6 +40,8 @@ FINITE: Measures = {
     "workload": (1, SHARE),
 }
 PAIRS: Measures = {"loss": (0, SHARE), "short": (0, SHARE), "workload": (1, SHARE), "pair": (2, SHARE)}
+# Of each share of calls reached in time: how many subjects its rows name.
+REACHED = {"region": 0, "all": 0, "at-once": 0, "atom": 1, "unit": 1, "district": 1}
 # Of each row with one whole number: its unit.
 COUNTS = {
     "units": COUNT, "atoms": COUNT, "plans": COUNT, "places": COUNT, "percent": "percent", "calls": PER_PERIOD,
@@ -143,10 +145,24 @@ def replay_row(row: list[str], before: list[Value]) -> list[Value]:
     return of_count(row)
 
 
+def reach_row(row: list[str], before: list[Value]) -> list[Value]:
+    """A row of shares gives one for each number of seconds, which is the second subject."""
+    kind, *fields = row
+    if kind == "seconds":
+        return [counted(kind, limit, SECONDS) for limit in fields]
+    subject, ends = fields[0] if REACHED[kind] else "", fields[REACHED[kind]:]
+    if ends == ["none"]:
+        return [between(kind, [subject], ends, SHARE)]
+    limits = [str(value.low) for value in before if value.measure == "seconds"]
+    if len(ends) != 2 * len(limits):
+        raise ValueError(row)
+    return [between(kind, [subject, limit], pair, SHARE) for limit, *pair in zip(limits, ends[0::2], ends[1::2])]
+
+
 Reader = Callable[[list[str], list[Value]], list[Value]]
 READERS: dict[str, Reader] = {
     "report": report_row, "finite": finite_row, "pairs": pairs_row, "study": comparison_row, "sweep": sweep_row,
-    "replay": replay_row,
+    "replay": replay_row, "reach": reach_row,
 }
 
 

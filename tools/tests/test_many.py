@@ -101,6 +101,17 @@ def test_plan_that_is_refused(tmp_path: pathlib.Path, program: pathlib.Path) -> 
     assert failures(tmp_path / "study") == [["refused,1,16", "refused"]]
 
 
+def test_method(tmp_path: pathlib.Path, program: pathlib.Path, hypercube) -> None:
+    """The program is asked for the method, and the study remembers it."""
+    plan, study = TOP / "examples" / "night-patrol.csv", tmp_path / "study"
+    subprocess.run(words(plan, study, program, "--method", "certificate"), check=True)
+    assert " PLAN --summary --method certificate\n" in (study / "plans.csv").read_text()
+    assert failures(study) == []
+    table = pandas.read_csv(study / "table.csv", dtype=str, keep_default_na=False).set_index("measure")
+    report = hypercube("solve", plan, "--summary", "--method", "certificate").splitlines()
+    assert f"travel,{table.loc['travel', 'low']},{table.loc['travel', 'high']}" in report
+
+
 def test_study_that_was_begun_otherwise(tmp_path: pathlib.Path, program: pathlib.Path) -> None:
     plans, study = small_study(tmp_path), tmp_path / "study"
     subprocess.run(words(plans, study, program), check=True)

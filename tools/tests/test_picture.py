@@ -8,7 +8,7 @@ from hypercube_tools import frame, pictures
 from hypercube_tools.command_line import main
 from hypercube_tools.faults import Fault
 from hypercube_tools.maps import map_of
-from test_table import COMPARISON, REPORT, SWEEP
+from test_table import COMPARISON, REACH, REPORT, SWEEP
 
 CITY = TOP / "examples" / "city-of-eight.csv"
 MAP = """unit,A,3
@@ -87,6 +87,42 @@ def test_comparison_fills_what_no_other_is_below() -> None:
     assert [dot.get_markerfacecolor() for dot in dots] == ["white", pictures.ORANGE]
 
 
+def test_reached() -> None:
+    """A line for each unit, and last one for the region, by the middles of their intervals."""
+    axes = pictures.reached(frame(REACH)).axes[0]
+    drawn = {line.get_label(): [tuple(map(float, point)) for point in line.get_xydata().round(6)] for line in axes.lines}
+    assert list(drawn) == ["A", "B", "region"]
+    assert drawn["region"] == [(1, 0.2), (8, 0.9)]
+    assert drawn["B"] == [(1, 0.1), (8, 0.8)]
+    assert [text.get_text() for text in axes.get_legend().get_texts()] == ["region", "A", "B"]
+    assert [label.get_text() for label in axes.get_xticklabels()] == ["1", "8"]
+    assert [pictures.clock(minutes) for minutes in (0, 1.5, 100 / 60)] == ["0", "1:30", "1:40"]
+
+
+def test_reached_by_units_that_are_alike() -> None:
+    alike = REACH.replace("unit,B,0.099999,0.100000,0.799999,0.800001", "unit,B,0.300000,0.300001,1.000000,1.000000")
+    assert [line.get_label() for line in pictures.reached(frame(alike)).axes[0].lines] == ["A,\nB", "region"]
+    assert pictures.together(["A", "B", "C", "D"]) == "A and 3 others"
+
+
+def test_reached_interval_is_drawn() -> None:
+    axes = pictures.reached(frame(REACH.replace("unit,B,0.099999,0.100000", "unit,B,0.050000,0.100000"))).axes[0]
+    band = axes.collections[2].get_paths()[0]
+    assert band.get_extents().extents.round(6).tolist() == [1, 0.05, 8, 0.800001]
+
+
+@pytest.mark.parametrize("limits", [1, 16])
+def test_reached_command(tmp_path: pathlib.Path, limits: int) -> None:
+    """The most numbers that there may be, and one only."""
+    rows = [["seconds", *(str(100 * limit) for limit in range(1, limits + 1))]]
+    rows += [["region", *limits * ["0.499999", "0.500001"]]]
+    rows += [["unit", f"U{n}", *limits * [f"0.{n:06}", f"0.{n:06}"]] for n in range(1, 13)]
+    text = tmp_path / "reach"
+    text.write_text("reach,1\n" + "".join(",".join(row) + "\n" for row in rows) + "end\n")
+    assert main(["picture", "reach", str(text), "-o", str(tmp_path / "reach.svg")]) == 0
+    assert (tmp_path / "reach.svg").read_text().count("<!-- U") == 12
+
+
 @pytest.mark.parametrize("ending", ["svg", "png"])
 def test_same_file_each_time(tmp_path: pathlib.Path, ending: str) -> None:
     drawn = [tmp_path / f"{name}.{ending}" for name in ("first", "second")]
@@ -100,6 +136,7 @@ def test_same_file_each_time(tmp_path: pathlib.Path, ending: str) -> None:
     (lambda: pictures.sites(frame(REPORT), map_of(MAP)), "no rows of measure"),
     (lambda: pictures.travel(frame(REPORT), map_of(MAP.replace("P", "R"))), 'no atom "P"'),
     (lambda: pictures.comparison(frame(SWEEP), []), "no rows of plans"),
+    (lambda: pictures.reached(frame(SWEEP)), "no rows of region"),
     (lambda: map_of("unit,A,3\n"), "an atom is missing"),
     (lambda: map_of("atom,P,1\n"), "not one that the program accepts"),
 ])

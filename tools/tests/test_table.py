@@ -2,6 +2,7 @@
 import csv
 import io
 import pathlib
+import re
 
 import pytest
 from conftest import TOP
@@ -89,7 +90,21 @@ busy,A,40,0.294117,0.294118
 busy,B,40,0.294117,0.294118
 end
 """
-TEXTS = {"report": REPORT, "comparison": COMPARISON, "finite": FINITE, "pairs": PAIRS, "sweep": SWEEP, "replay": REPLAY}
+REACH = """reach,1
+seconds,60,480
+region,0.199999,0.200001,0.899999,0.900001
+all,0.099999,0.100001,0.499999,0.500001
+at-once,0.099999,0.100001,0.399999,0.400001
+atom,P,0.199999,0.200001,0.899999,0.900001
+atom,Q,0.199999,0.200001,0.899999,0.900001
+unit,A,0.300000,0.300001,1.000000,1.000000
+unit,B,0.099999,0.100000,0.799999,0.800001
+district,A,0.199999,0.200001,0.899999,0.900001
+district,B,none
+end
+"""
+TEXTS = {"report": REPORT, "comparison": COMPARISON, "finite": FINITE, "pairs": PAIRS, "sweep": SWEEP, "replay": REPLAY,
+         "reach": REACH}
 
 
 @pytest.mark.parametrize("kind, row", [
@@ -120,13 +135,20 @@ TEXTS = {"report": REPORT, "comparison": COMPARISON, "finite": FINITE, "pairs": 
     ("replay", "dispatch,A,P,0.399999,0.400001,share,"),
     ("replay", "busy,B,,40,40,seconds,"),
     ("replay", "workload,B,,0.294117,0.294118,share,"),
+    ("reach", "seconds,,,60,60,seconds,"),
+    ("reach", "seconds,,,480,480,seconds,"),
+    ("reach", "region,,60,0.199999,0.200001,share,"),
+    ("reach", "at-once,,480,0.399999,0.400001,share,"),
+    ("reach", "unit,A,60,0.300000,0.300001,share,"),
+    ("reach", "unit,A,480,1.000000,1.000000,share,"),
+    ("reach", "district,B,,,,share,none"),
 ])
 def test_row(kind: str, row: str) -> None:
     assert row in table_text(values(TEXTS[kind])).splitlines()
 
 
 @pytest.mark.parametrize("kind, rows", [("report", 27), ("comparison", 7), ("finite", 7), ("pairs", 6), ("sweep", 4),
-                                        ("replay", 18)])
+                                        ("replay", 18), ("reach", 19)])
 def test_number_of_rows(kind: str, rows: int) -> None:
     assert len(values(TEXTS[kind])) == rows
 
@@ -139,8 +161,7 @@ def test_groups_are_numbered() -> None:
 @pytest.mark.parametrize("path", sorted((TOP / "examples").glob("*.report")), ids=lambda path: path.stem)
 def test_example(path: pathlib.Path) -> None:
     """Each pair of ends of the text stands in the table, digit for digit and in the same order."""
-    rows = [row.split(",") for row in path.read_text().splitlines()]
-    ends = [tuple(row[-2:]) for row in rows if len(row) > 2 and "." in row[-1]]
+    ends = re.findall(r",(\d+\.\d+),(\d+\.\d+)(?=[,\n])", path.read_text())
     table = list(csv.DictReader(io.StringIO(table_text(values(path.read_text())))))
     assert [(row["low"], row["high"]) for row in table if "." in row["high"]] == ends and ends
 
@@ -153,6 +174,8 @@ def test_example(path: pathlib.Path) -> None:
     (FINITE.replace("busy,0.4", "idle,0.4"), "line 5 of the text"),
     (FINITE.replace("0.428571,0.428572\nqueue", "0.428571\nqueue"), "line 5 of the text"),
     (FINITE.replace("600.000,600.000", "600.000,soon"), "line 7 of the text"),
+    (REACH.replace("all,0.099999,0.100001,0.4", "all,0.4"), "line 4 of the text"),
+    (REACH.replace("region,", "regions,"), "line 3 of the text"),
 ])
 def test_text_that_is_none(text: str, message: str) -> None:
     with pytest.raises(Fault) as found:
