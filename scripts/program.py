@@ -26,6 +26,7 @@ PROGRAM = "hypercube"
 BUILT = CRATES / PROGRAM / "out" / PROGRAM
 STAMP = CRATES / PROGRAM / "out" / "sources.sha256"
 FAILED = 125
+FUNCTION = re.compile(rb"^ *(?:pub(?:\(crate\))? )?(?:const )?fn ", re.MULTILINE)
 
 
 def say(text):
@@ -54,25 +55,34 @@ def sources_of(name):
         yield from (path for path in sorted((CRATES / name / folder).rglob("*")) if path.suffix in (".rt", ".antt"))
 
 
+def work_in(name):
+    """About how long the proofs of a crate take, by its sources: a function as long as forty lines of proofs."""
+    work = 0
+    for path in sources_of(name):
+        text = path.read_bytes()
+        work += len(FUNCTION.findall(text)) if path.suffix == ".rt" else text.count(b"\n") / 40
+    return work
+
+
 class Chains:
-    """How long the chains of crates are, in lines of their sources, which their proofs take about as long as."""
+    """How long the proofs of the chains of crates take."""
 
     def __init__(self, graph):
-        self.lines = {name: sum(path.read_bytes().count(b"\n") for path in sources_of(name)) for name in graph}
+        self.work = {name: work_in(name) for name in graph}
         self.below = graph
         self.above = {name: [high for high in graph if name in graph[high]] for name in graph}
         self.longest = max(self.up_from(name) for name in graph)
 
     def up_from(self, name):
         """Of the longest chain from this crate upward."""
-        return self.lines[name] + max(map(self.up_from, self.above[name]), default=0)
+        return self.work[name] + max(map(self.up_from, self.above[name]), default=0)
 
     def down_from(self, name):
-        return self.lines[name] + max(map(self.down_from, self.below[name]), default=0)
+        return self.work[name] + max(map(self.down_from, self.below[name]), default=0)
 
     def is_awaited(self, name):
         """Whether one of the longest chains goes through this crate, so that the whole waits for it."""
-        return self.up_from(name) + self.down_from(name) - self.lines[name] > 0.8 * self.longest
+        return self.up_from(name) + self.down_from(name) - self.work[name] > 0.6 * self.longest
 
 
 def sum_of_sources(names):
