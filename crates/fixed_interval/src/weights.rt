@@ -1,8 +1,8 @@
 ghost use Rattle.std.specs.Prelude.{◌≡◌, ℕ, ◌+◌, ◌-◌, ◌*◌, ◌^◌, ◌<◌, ◌≤◌, All, List, [], ◌∷◌, ◌++◌, IfOk, length, map, vec_capacity, vec_len};
-ghost use Rattle.fixed_interval.specs.declared.TheConstants.{MOST_WEIGHTS};
 ghost use Rattle.fixed_interval.specs.Ends.{shifted_ends};
 ghost use Rattle.fixed_interval.specs.WeightList.{EnclosesAll, IsLeastShift, IsWeight, PushesShifted, WeightList, ends_at};
 
+use crate::MOST_WEIGHTS;
 use crate::iv::Iv;
 use crate::wide::Wide;
 use std::alloc::{AllocError, Global};
@@ -11,29 +11,32 @@ use std::marker::Model;
 /// A list of weights that matter only up to one common factor, each with a high end of at most
 /// `2^52`.
 ///
-/// Room for all of them is reserved at the start, and for at most [`MOST_WEIGHTS`](crate::MOST_WEIGHTS).
-/// Contracts see the weights as `items`, and the room that is left as `spare`.
+/// Room for all of them is reserved at the start, and for at most `MOST`. Contracts see the weights as `items`, and the
+/// room that is left as `spare`.
 #[derive(Debug, Drop)]
-pub struct Weights {
+pub struct WeightsUpTo<const MOST: usize> {
     items: Vec<Iv>,
 }
 
-impl Model for Weights {
+/// The weights of the words of a plan of twelve units at most, and one more.
+pub type Weights = WeightsUpTo<MOST_WEIGHTS>;
+
+impl<const MOST: usize> Model for WeightsUpTo<MOST> {
     ghost Value = { WeightList };
 
     ghost view = { λ a. record { items = a.items.items; spare = vec_capacity a.items - vec_len a.items } };
 
-    ghost invariant = { λ a. All IsWeight a.items.items × (vec_capacity a.items ≤ MOST_WEIGHTS) };
+    ghost invariant = { λ a. All IsWeight a.items.items × (vec_capacity a.items ≤ MOST) };
 }
 
-impl Weights {
+impl<const MOST: usize> WeightsUpTo<MOST> {
     /// An empty list with room for `n` weights.
     pub fn reserved(alloc: Global, n: usize) -> Result<Self, AllocError>
-        requires { n ≤ MOST_WEIGHTS }
+        requires { n ≤ MOST }
         ensures empty { IfOk result (λ weights. weights.items ≡ []) }
         ensures room { IfOk result (λ weights. weights.spare ≡ n) }
     {
-        Ok(Weights {
+        Ok(WeightsUpTo {
             items: Vec::with_capacity(alloc, n)?,
         })
     }
@@ -59,7 +62,7 @@ impl Weights {
     /// How many weights there are.
     pub fn len(&self) -> usize
         ensures count { result ≡ length self.now.items }
-        ensures in_range { result ≤ MOST_WEIGHTS }
+        ensures in_range { result ≤ MOST }
     {
         self.items.len()
     }

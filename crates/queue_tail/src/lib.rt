@@ -6,7 +6,7 @@ ghost use Rattle.std.specs.Prelude.{◌≡◌, ℕ, ◌+◌, ◌<◌, ◌≤◌,
 ghost use Rattle.fixed_interval.specs.WeightList.{EnclosesAll};
 ghost use Rattle.queue_tail.specs.Tail.{GainsMultiple, GainsTail, IsMultipleOf, IsTailOf};
 
-use fixed_interval::Weights;
+use fixed_interval::WeightsUpTo;
 
 /// Puts the tail's weight after those of the words.
 ///
@@ -16,7 +16,7 @@ use fixed_interval::Weights;
 /// of waiting calls is geometric: each further one has `calls / service` times the mass of one less,
 /// and all of them together `calls / (service - calls)` times the mass of that word (Larson and
 /// Odoni, Urban Operations Research, chapter 5).
-pub fn add_tail(weights: &mut Weights, calls: u32, service: u32)
+pub fn add_tail<const MOST: usize>(weights: &mut WeightsUpTo<MOST>, calls: u32, service: u32)
     requires stable { calls < service }
     requires some { 1 ≤ length weights.old.items }
     requires room { 1 ≤ weights.old.spare }
@@ -33,7 +33,7 @@ pub fn add_tail(weights: &mut Weights, calls: u32, service: u32)
 ///
 /// With a limited number of waiting places, the state of one more waiting call has `calls / service` times the mass
 /// of the state before it.
-pub fn add_multiple(weights: &mut Weights, num: u32, den: u32)
+pub fn add_multiple<const MOST: usize>(weights: &mut WeightsUpTo<MOST>, num: u32, den: u32)
     requires divisor { 1 ≤ den }
     requires some { 1 ≤ length weights.old.items }
     requires room { 1 ≤ weights.old.spare }

@@ -6,7 +6,7 @@ use Rattle.queue_tail.proofs.Tail.{multiple_encloses}
 use Rattle.queue_tail.proofs.add_multiple.Goals as goal
 
 pub returns-clause-encloses : goal.returns-clause-encloses
-returns-clause-encloses c =
+returns-clause-encloses g c =
     let gains : GainsMultiple c.args.num c.args.den c.args.weights.now.items c.push_shifting.new.self.items =
     grind (arith, common_steps) in
     let ordered : (ends_at c.args.weights.now.items (length c.args.weights.now.items - 1)).lo
