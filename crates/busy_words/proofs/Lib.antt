@@ -6,5 +6,6 @@ pub mod Algebra
 pub mod SetParts
 pub mod Spans
 pub mod Places
+pub mod MassParts
 pub mod WeightParts
 pub mod MeasureEnds

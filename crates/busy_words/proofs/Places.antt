@@ -78,7 +78,7 @@ module _ (p : PlanParts) (order : WordOrder) (o : IsOrderOf p order) where
     abbrev number : ℕ → ℕ
     number i = slice_index (masses_by_place p order xs z) i
 
-    mass_of_place : (i : ℕ) → i < words p → number i ≡ mass_in xs (word_at order i)
+    pub mass_of_place : (i : ℕ) → i < words p → number i ≡ mass_in xs (word_at order i)
     mass_of_place i l = mass_of_word xs (tail_masses p.line z) i l
 
     words_mapped : length (map (mass_in xs) order.words) ≡ words p

@@ -51,7 +51,7 @@ part_encloses unit n g times rest w y some_g h some =
     (encloses_ratio (weighed_ends n times w) (divided_ends g (weighed_ends n times w)) 1 g some_g refl a c.den inside)
     (encloses_ratio (weighed_ends n rest w) (divided_ends g (weighed_ends n rest w)) 1 g some_g refl b c.den outside))
 
-encloses_set : (n : ℕ) (test : ℕ → Bool) (w : ℕ → Ends) (y : ℕ → ℕ) (den : ℕ)
+pub encloses_set : (n : ℕ) (test : ℕ → Bool) (w : ℕ → Ends) (y : ℕ → ℕ) (den : ℕ)
     → ((i : ℕ) → i < n → Encloses (w i) (y i) den)
     → Encloses (set_ends n test w) (sum_below n (λ i. cond (test i) (y i) 0)) den
 encloses_set n test w y den h =

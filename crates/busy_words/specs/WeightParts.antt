@@ -1,6 +1,6 @@
 -- The parts of a plan's weights from which its measures are made. Weights stand in the order of the words, and on
 -- the infinite line one more stands for the calls that wait. All units are busy there, so its word is the full one.
-use Rattle.std.specs.Prelude.{◌≡◌, ℕ, ◌+◌, ◌-◌, ◌^◌, nat_le, if◌then◌else◌, List, [], ◌∷◌, ◌++◌, map}
+use Rattle.std.specs.Prelude.{◌≡◌, ℕ, ◌+◌, ◌-◌, ◌^◌, ◌<◌, nat_le, if◌then◌else◌, List, [], ◌∷◌, ◌++◌, map}
 use Rattle.fixed_interval.specs.Ends.{Ends}
 use Rattle.fixed_interval.specs.WeightList.{EnclosesAll}
 use Rattle.hyper_model.specs.declared.kinds.Line.{Line}
@@ -8,7 +8,8 @@ use Rattle.hyper_model.specs.declared.kinds.Line.TheVariants as line
 use Rattle.hyper_model.specs.declared.parts.PlanParts.{PlanParts}
 use Rattle.hyper_model.specs.Plans.{units, split}
 use Rattle.hyper_model.specs.Words.{words, full_word, is_busy, takes, portion}
-use Rattle.hyper_model.specs.Solutions.{mass_in, IsSolution}
+use Rattle.hyper_model.specs.Measures.{base}
+use Rattle.hyper_model.specs.Solutions.{mass_in, IsSolution, IsTail}
 use Rattle.busy_words.specs.Order.{WordOrder, IsInOrder, word_or_full}
 use Rattle.busy_words.specs.Parts.{part, set_part}
 
@@ -44,6 +45,13 @@ masses_by_place p order xs z = map (mass_in xs) order.words ++ tail_masses p.lin
 -- xs and z solve the plan, and these weights in this order enclose their masses up to one common factor
 pub record EnclosesSolution (p : PlanParts) (order : WordOrder) (items : List Ends) (xs : List ℕ) (z : ℕ) : Type 0 where
   pub solves : IsSolution p xs z
+  pub encloses : EnclosesAll items (masses_by_place p order xs z)
+
+-- These weights in this order enclose the masses xs of words and z of the calls that wait, whether or not they are a plan's
+-- solution, up to one common factor: z is the tail of xs, and some mass is of states in which a call is answered.
+pub record EnclosesMasses (p : PlanParts) (order : WordOrder) (items : List Ends) (xs : List ℕ) (z : ℕ) : Type 0 where
+  pub tail : IsTail p.line p xs z
+  pub some : 0 < base p (mass_in xs) z
   pub encloses : EnclosesAll items (masses_by_place p order xs z)
 
 -- the part of the states in which unit n is busy

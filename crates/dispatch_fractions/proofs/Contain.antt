@@ -194,7 +194,7 @@ module _ (p : PlanParts) (xs : List ℕ) (z : ℕ) (parts : PartList) (h : HasPa
       (dispatch_flow_inside p (mass_in xs) z n n) whole (others_hold n) (inside_holds n n l)))
 
 -- what holds of each fraction and of each share holds of all
-all_dispatches : (P : Enclosed → Type 0) (p : PlanParts) (parts : PartList)
+pub all_dispatches : (P : Enclosed → Type 0) (p : PlanParts) (parts : PartList)
     → ((n j : ℕ) → n < units p → j < atoms p → P (fraction_of p parts n j)) → P (region_share p parts)
     → ((n : ℕ) → n < units p → P (unit_share p parts n)) → ((n : ℕ) → n < units p → P (district_share p parts n))
     → All P (fractions_of p parts ++ interdistrict_of p parts)

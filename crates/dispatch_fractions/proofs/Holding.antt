@@ -1,4 +1,4 @@
--- Parts of weights that enclose a solution contain what they stand for.
+-- Parts of weights that enclose masses of words contain what they stand for.
 use Rattle.std.proofs.Common.{◌≡◌, ℕ, ◌*◌, ◌^◌, ◌<◌, ◌≤◌, List, refl, sym, subst, arith}
 use Rattle.std.specs.Prelude.{Option, Some, None, SomeIff, IsSome}
 use Rattle.std.proofs.lemmas.Nat.{mul-le}
@@ -11,12 +11,13 @@ use Rattle.hyper_model.specs.declared.kinds.Line.TheVariants as line
 use Rattle.hyper_model.specs.declared.parts.PlanParts.{PlanParts}
 use Rattle.hyper_model.specs.Plans.{units, atoms, service_of, all_service, split, IsAccepted}
 use Rattle.hyper_model.specs.Solutions.{mass_in}
-use Rattle.hyper_model.specs.Measures.{queued_mass_on, queued_mass, base_on, base, taken_mass}
+use Rattle.hyper_model.specs.Measures.{mass, queued_mass_on, queued_mass, base_on, base, taken_mass}
 use Rattle.hyper_model.proofs.Sums.{place_le_sum}
 use Rattle.hyper_model.proofs.Masses.{service_total_positive}
 use Rattle.busy_words.specs.Order.{WordOrder}
-use Rattle.busy_words.specs.WeightParts.{IsOrderOf, EnclosesSolution, full_part, taken_part}
-use Rattle.busy_words.proofs.WeightParts.{full_part_encloses, taken_part_encloses}
+use Rattle.busy_words.specs.WeightParts.{IsOrderOf, EnclosesMasses, EnclosesSolution, full_part, taken_part}
+use Rattle.busy_words.proofs.MassParts.{mass_of_base, full_part_encloses, taken_part_encloses}
+use Rattle.busy_words.proofs.WeightParts.{masses_enclosed}
 use Rattle.dispatch_fractions.specs.PartLists.{PartList, waiting_on, help_from, parts_from, ArePartsOf, HasParts}
 use Rattle.hyper_model.proofs.Ranges.{table_read}
 
@@ -50,7 +51,10 @@ parts_are p order w = record {
 }
 
 module _ (p : PlanParts) (a : IsAccepted p) (order : WordOrder) (o : IsOrderOf p order) (items : List Ends)
-    (xs : List ℕ) (z : ℕ) (e : EnclosesSolution p order items xs z) where
+    (xs : List ℕ) (z : ℕ) (e : EnclosesMasses p order items xs z) where
+  some_mass : 0 < mass p (mass_in xs) z
+  some_mass = mass_of_base p (mass_in xs) z e.some
+
   waiting_holds : Encloses (waiting_on p.line (full_part p (ends_at items))) (2 ^ 62 * queued_mass p (mass_in xs) z)
       (base p (mass_in xs) z)
   waiting_holds = on_line p.line
@@ -59,7 +63,7 @@ module _ (p : PlanParts) (a : IsAccepted p) (order : WordOrder) (o : IsOrderOf p
           → Encloses (waiting_on l (full_part p (ends_at items))) (2 ^ 62 * queued_mass_on l p (mass_in xs) z)
           (base_on l p (mass_in xs) z)
       on_line line.Zero = record { low = omega arith; high = omega arith }
-      on_line line.Infinite = full_part_encloses p order o items xs z e
+      on_line line.Infinite = full_part_encloses p order o items xs z e.tail some_mass e.encloses
 
   help_holds : (n : ℕ)
       → Encloses (help_from p (full_part p (ends_at items)) n) (2 ^ 62 * queued_mass p (mass_in xs) z * service_of p n)
@@ -69,13 +73,12 @@ module _ (p : PlanParts) (a : IsAccepted p) (order : WordOrder) (o : IsOrderOf p
       (service_of p n) (all_service p) (service_total_positive p a) refl (2 ^ 62 * queued_mass p (mass_in xs) z)
       (base p (mass_in xs) z) waiting_holds
 
-  pub has_parts : (parts : PartList) → ArePartsOf p order (ends_at items) parts → HasParts p xs z parts
-  has_parts parts is = record {
+  pub masses_have_parts : (parts : PartList) → ArePartsOf p order (ends_at items) parts → HasParts p xs z parts
+  masses_have_parts parts is = record {
     accepted = a;
-    solves = e.solves;
     taken = λ n j l k.
         subst (λ r. Encloses r (2 ^ 62 * taken_mass p (mass_in xs) n j) (split p * base p (mass_in xs) z))
-        (sym (is.taken n j l k)) (taken_part_encloses p order o items xs z e a n j l);
+        (sym (is.taken n j l k)) (taken_part_encloses p order o items xs z e.tail some_mass e.encloses e.some n j l);
     waiting =
         subst (λ r. Encloses (waiting_on p.line r) (2 ^ 62 * queued_mass p (mass_in xs) z) (base p (mass_in xs) z))
         (sym is.full) waiting_holds;
@@ -83,3 +86,9 @@ module _ (p : PlanParts) (a : IsAccepted p) (order : WordOrder) (o : IsOrderOf p
         subst (λ r. Encloses r (2 ^ 62 * queued_mass p (mass_in xs) z * service_of p n)
         (all_service p * base p (mass_in xs) z)) (sym (is.help n l)) (help_holds n);
   }
+
+-- so do those of weights that enclose a solution
+pub has_parts : (p : PlanParts) → IsAccepted p → (order : WordOrder) → IsOrderOf p order → (items : List Ends) (xs : List ℕ)
+    (z : ℕ) → EnclosesSolution p order items xs z → (parts : PartList) → ArePartsOf p order (ends_at items) parts
+    → HasParts p xs z parts
+has_parts p a order o items xs z e = masses_have_parts p a order o items xs z (masses_enclosed p a order items xs z e)

@@ -9,7 +9,7 @@ use Rattle.hyper_model.specs.declared.kinds.Line.{Line}
 use Rattle.hyper_model.specs.declared.kinds.Line.TheVariants as line
 use Rattle.hyper_model.specs.declared.parts.PlanParts.{PlanParts}
 use Rattle.hyper_model.specs.Plans.{units, atoms, service_of, all_service, split, IsAccepted}
-use Rattle.hyper_model.specs.Solutions.{mass_in, IsSolution}
+use Rattle.hyper_model.specs.Solutions.{mass_in}
 use Rattle.hyper_model.specs.Measures.{queued_mass, base, taken_mass}
 use Rattle.busy_words.specs.Order.{WordOrder}
 use Rattle.busy_words.specs.WeightParts.{full_part, taken_part}
@@ -65,10 +65,10 @@ pub record ArePartsOf (p : PlanParts) (order : WordOrder) (w : ℕ → Ends) (pa
   pub taken : (n j : ℕ) → n < units p → j < atoms p → taken_by parts n j ≡ taken_part p order w n j
   pub help : (n : ℕ) → n < units p → help_of parts n ≡ help_from p (full_part p w) n
 
--- the plan is accepted, xs and z solve it, and each of the parts contains what it stands for, as a part of 2 ^ 62
+-- The plan is accepted, and each of the parts contains what it stands for, as a part of 2 ^ 62, for these masses of the
+-- words and of the calls that wait: those of a solution, or others.
 pub record HasParts (p : PlanParts) (xs : List ℕ) (z : ℕ) (parts : PartList) : Type 0 where
   pub accepted : IsAccepted p
-  pub solves : IsSolution p xs z
   pub taken : (n j : ℕ) → n < units p → j < atoms p
       → Encloses (taken_by parts n j) (2 ^ 62 * taken_mass p (mass_in xs) n j) (split p * base p (mass_in xs) z)
   pub waiting : Encloses (waiting_on p.line parts.full) (2 ^ 62 * queued_mass p (mass_in xs) z) (base p (mass_in xs) z)

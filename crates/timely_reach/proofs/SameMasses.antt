@@ -28,10 +28,6 @@ module _ (p : PlanParts) (limit : ℕ) where
       on_line line.Zero = refl
       on_line line.Infinite = refl
 
-  pub same_tail : (l : Line) (xs : List ℕ) (z : ℕ) → IsTail l p xs z → IsTail l q xs z
-  same_tail line.Zero xs z t = t
-  same_tail line.Infinite xs z t = t
-
   pub same_flow : (x : ℕ → ℕ) (z n : ℕ) → dispatch_flow_by q x z n ≡ dispatch_flow_by p x z n
   same_flow x z n =
       ap (λ l. sum_below (atoms p) (λ j. calls_of p j * (all_service p * taken_mass p x n j + split p * service_of p n * l)))

@@ -16,7 +16,7 @@ use Rattle.timely_reach.specs.declared.kinds.ReachMeasure.TheVariants as measure
 use Rattle.timely_reach.specs.Reach.{IsReachInRange, has_no_calls}
 use Rattle.timely_reach.specs.ReachRows.{AreReady}
 use Rattle.timely_reach.specs.TimelyPlans.{timely_plan, timely_seconds, timely_table}
-use Rattle.timely_reach.proofs.SameMasses.{same_base, same_queued, same_tail}
+use Rattle.timely_reach.proofs.SameMasses.{same_base, same_queued}
 
 thousand_at_most : (b : Bool) → cond b 1000 0 ≤ 1000
 thousand_at_most true = omega arith
@@ -65,16 +65,9 @@ module _ (p : PlanParts) (limit : ℕ) where
     stable = a.stable;
   }
 
-  pub timely_solution : (xs : List ℕ) (z : ℕ) → IsSolution p xs z → IsSolution q xs z
-  timely_solution xs z s = record {
-    words = record { one_each = s.words.one_each; positive = s.words.positive; balanced = s.words.balanced };
-    tail = same_tail p limit p.line xs z s.tail;
-  }
-
   pub timely_parts : (xs : List ℕ) (z : ℕ) (parts : PartList) → HasParts p xs z parts → HasParts q xs z parts
   timely_parts xs z parts h = record {
     accepted = timely_accepted h.accepted;
-    solves = timely_solution xs z h.solves;
     taken = λ n j l k.
         subst (λ b. Encloses (taken_by parts n j) (2 ^ 62 * taken_mass p (mass_in xs) n j) (split p * b))
         (sym (same_base p limit (mass_in xs) z)) (h.taken n j l k);

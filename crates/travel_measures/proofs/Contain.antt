@@ -166,7 +166,7 @@ module _ (p : PlanParts) (xs : List ℕ) (z : ℕ) (parts : PartList) (h : HasPa
       (mean_holds (Some n) (district_calls p n) refl))
 
 -- what holds of the region's time, and of each atom's, unit's and district's, holds of all
-all_times : (P : Enclosed → Type 0) (p : PlanParts) (parts : PartList) → P (region_time_of p parts)
+pub all_times : (P : Enclosed → Type 0) (p : PlanParts) (parts : PartList) → P (region_time_of p parts)
     → ((j : ℕ) → j < atoms p → P (atom_time p parts j)) → ((n : ℕ) → n < units p → P (unit_time p parts n))
     → ((n : ℕ) → n < units p → P (district_time p parts n)) → All P (travel_times_of p parts)
 all_times P p parts region at_atoms of_units of_districts =

@@ -1,4 +1,4 @@
--- The ends of each measure contain it, for every solution of the plan whose masses the weights enclose.
+-- The ends of each measure contain it, whatever masses the weights enclose: those of every solution of the plan are some.
 use Rattle.std.proofs.Common.{◌≡◌, ℕ, ◌+◌, ◌-◌, ◌*◌, ◌^◌, ◌<◌, All, List, [], ◌∷◌, refl, sym, ap, subst, arith}
 use Rattle.std.proofs.lemmas.List.Elements.{All-nil, All-cons, All-append}
 use Rattle.std.proofs.Math.Nat.{mul-pos}
@@ -19,9 +19,10 @@ use Rattle.hyper_model.proofs.PlanLaws.{stable_of}
 use Rattle.hyper_model.proofs.Ranges.{all_range}
 use Rattle.busy_words.specs.Order.{WordOrder}
 use Rattle.busy_words.specs.MeasureEnds.{measure_ends}
-use Rattle.busy_words.specs.WeightParts.{IsOrderOf, EnclosesSolution, busy_part, full_part, tail_part}
+use Rattle.busy_words.specs.WeightParts.{IsOrderOf, EnclosesMasses, EnclosesSolution, busy_part, full_part, tail_part}
 use Rattle.busy_words.proofs.MeasureEnds.{contains_ratio}
-use Rattle.busy_words.proofs.WeightParts.{busy_part_encloses, full_part_encloses, tail_part_encloses}
+use Rattle.busy_words.proofs.MassParts.{mass_of_base, busy_part_encloses, full_part_encloses, tail_part_encloses}
+use Rattle.busy_words.proofs.WeightParts.{masses_enclosed}
 use Rattle.workload_measures.specs.LoadEnds.{line_measures, loads_of, loss_or_delay_on, loss_ends, queue_ends, wait_ends, workload_ends, workload_of, workloads_of}
 
 without_tail : (i : Ends) (k x z d : ℕ) → z ≡ 0 → Encloses i (k * (x + z)) d → Encloses i (k * x) d
@@ -52,7 +53,7 @@ wait_of_part q period service spare calls z m some some_calls e =
     (mul-pos some some_calls) (omega arith) (omega arith) e
 
 -- each speaks of the region, or of one of the plan's units
-line_in_range : (p : PlanParts) (l : Line) (items : List Ends) → All (λ e. IsInRange p e.measure) (line_measures l p items)
+pub line_in_range : (p : PlanParts) (l : Line) (items : List Ends) → All (λ e. IsInRange p e.measure) (line_measures l p items)
 line_in_range p line.Zero items =
     All-cons (λ e. IsInRange p e.measure) (measure_ends measure.Loss (loss_ends p items)) [] tt
     (All-nil (λ e. IsInRange p e.measure))
@@ -71,11 +72,14 @@ loads_in_range p order items =
     (all_range (λ e. IsInRange p e.measure) (workload_of p order items) (units p) (λ n l. l))
 
 module _ (p : PlanParts) (a : IsAccepted p) (order : WordOrder) (o : IsOrderOf p order) (items : List Ends) (xs : List ℕ)
-    (z : ℕ) (e : EnclosesSolution p order items xs z) where
+    (z : ℕ) (e : EnclosesMasses p order items xs z) where
+  some_mass : 0 < mass p (mass_in xs) z
+  some_mass = mass_of_base p (mass_in xs) z e.some
+
   loss_enclosed : Encloses (loss_ends p items) (1000000 * (mass_in xs (full_word p) + z)) (mass p (mass_in xs) z)
   loss_enclosed =
       encloses_outward (full_part p (ends_at items)) (loss_ends p items) 1000000 refl (mass_in xs (full_word p) + z)
-      (mass p (mass_in xs) z) (full_part_encloses p order o items xs z e)
+      (mass p (mass_in xs) z) (full_part_encloses p order o items xs z e.tail some_mass e.encloses)
 
   loss_found : (l : Line) → p.line ≡ l
       → IsFoundOf p (mass_in xs) z (loss_or_delay_on l) (found.Ends (loss_ends p items).lo (loss_ends p items).hi)
@@ -85,7 +89,7 @@ module _ (p : PlanParts) (a : IsAccepted p) (order : WordOrder) (o : IsOrderOf p
         (contains_ratio (loss_ends p items) 1000000 (mass_in xs (full_word p)) (mass p (mass_in xs) z)
         (loss_on line.Zero p (mass_in xs) z) refl refl
         (without_tail (loss_ends p items) 1000000 (mass_in xs (full_word p)) z (mass p (mass_in xs) z)
-        (subst (λ l. IsTail l p xs z) is e.solves.tail) loss_enclosed)),
+        (subst (λ l. IsTail l p xs z) is e.tail) loss_enclosed)),
   )
   loss_found line.Infinite is = (
     refl,
@@ -103,7 +107,7 @@ module _ (p : PlanParts) (a : IsAccepted p) (order : WordOrder) (o : IsOrderOf p
             (contains_ratio (queue_ends p items) 1000000 (z * all_service p)
             (mass p (mass_in xs) z * (all_service p - all_calls p)) (queue_on line.Infinite p (mass_in xs) z) refl refl
             (queue_of_part (tail_part p (ends_at items)) (all_service p) (all_service p - all_calls p) z
-            (mass p (mass_in xs) z) (omega arith) (tail_part_encloses p order o items xs z e))),
+            (mass p (mass_in xs) z) (omega arith) (tail_part_encloses p order o items xs z e.tail some_mass e.encloses))),
       )
 
   wait_contained : p.line ≡ line.Infinite → IsContained p (mass_in xs) z (measure_ends measure.Wait (wait_ends p items))
@@ -115,10 +119,10 @@ module _ (p : PlanParts) (a : IsAccepted p) (order : WordOrder) (o : IsOrderOf p
             (mass p (mass_in xs) z * (all_service p - all_calls p) * all_calls p) (wait_on line.Infinite p (mass_in xs) z)
             refl refl
             (wait_of_part (tail_part p (ends_at items)) p.period (all_service p) (all_service p - all_calls p) (all_calls p) z
-            (mass p (mass_in xs) z) (omega arith) a.atoms.calls.low (tail_part_encloses p order o items xs z e))),
+            (mass p (mass_in xs) z) (omega arith) a.atoms.calls.low (tail_part_encloses p order o items xs z e.tail some_mass e.encloses))),
       )
 
-  line_contained : (l : Line) → p.line ≡ l → AreContained p (mass_in xs) z (line_measures l p items)
+  pub line_contained : (l : Line) → p.line ≡ l → AreContained p (mass_in xs) z (line_measures l p items)
   line_contained line.Zero is =
       All-cons (IsContained p (mass_in xs) z) (measure_ends measure.Loss (loss_ends p items)) [] (loss_found line.Zero is)
       (All-nil (IsContained p (mass_in xs) z))
@@ -129,17 +133,23 @@ module _ (p : PlanParts) (a : IsAccepted p) (order : WordOrder) (o : IsOrderOf p
       All-cons IsIn (measure_ends measure.Delay (loss_ends p items)) (queue ∷ wait ∷ []) (loss_found line.Infinite is)
       (All-cons IsIn queue (wait ∷ []) (queue_contained is) (All-cons IsIn wait [] (wait_contained is) (All-nil IsIn)))
 
-  workload_contained : (n : ℕ) → n < units p → IsContained p (mass_in xs) z (workload_of p order items n)
+  pub workload_contained : (n : ℕ) → n < units p → IsContained p (mass_in xs) z (workload_of p order items n)
   workload_contained n l = (
     refl,
     contains_ratio (workload_ends p order items n) 1000000 (busy_mass p (mass_in xs) z n) (mass p (mass_in xs) z)
         (record { numerator = busy_mass p (mass_in xs) z n; denominator = mass p (mass_in xs) z }) refl refl
         (encloses_outward (busy_part p order (ends_at items) n) (workload_ends p order items n) 1000000 refl
-        (busy_mass p (mass_in xs) z n) (mass p (mass_in xs) z) (busy_part_encloses p order o items xs z e n l)),
+        (busy_mass p (mass_in xs) z n) (mass p (mass_in xs) z) (busy_part_encloses p order o items xs z e.tail some_mass e.encloses n l)),
   )
 
-  pub loads_contained : AreContained p (mass_in xs) z (loads_of p order items)
-  loads_contained =
+  pub loads_contain_masses : AreContained p (mass_in xs) z (loads_of p order items)
+  loads_contain_masses =
       All-append (IsContained p (mass_in xs) z) (line_measures p.line p items) (workloads_of p order items)
       (line_contained p.line refl)
       (all_range (IsContained p (mass_in xs) z) (workload_of p order items) (units p) workload_contained)
+
+-- and so of every solution
+pub loads_contained : (p : PlanParts) → IsAccepted p → (order : WordOrder) → IsOrderOf p order → (items : List Ends)
+    (xs : List ℕ) (z : ℕ) → EnclosesSolution p order items xs z → AreContained p (mass_in xs) z (loads_of p order items)
+loads_contained p a order o items xs z e =
+    loads_contain_masses p a order o items xs z (masses_enclosed p a order items xs z e)
