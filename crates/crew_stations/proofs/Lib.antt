@@ -23,3 +23,4 @@ pub mod Sharing
 mod WorkedStations
 mod WorkedFleet
 pub mod Balance
+pub mod Fleets

@@ -37,10 +37,10 @@ put_first : (unit : ℕ) (groups : List (List ℕ)) → put_before unit true gro
 put_first unit [] = refl
 put_first unit (group ∷ groups) = refl
 
-abbrev by_itself : ℕ → List ℕ
+abbrev pub by_itself : ℕ → List ℕ
 by_itself k = k ∷ []
 
-singles : (order : List ℕ) (begins : List Bool) → are_single (groups_from order begins) ≡ true
+pub singles : (order : List ℕ) (begins : List Bool) → are_single (groups_from order begins) ≡ true
     → groups_from order begins ≡ map by_itself order
 singles [] begins e = refl
 singles (k ∷ order) [] e =

@@ -26,7 +26,7 @@ use Rattle.crew_stations.proofs.Parts.{same_calls, same_service, same_mass, base
 use Rattle.crew_stations.proofs.Ratios.{multiple_of, by_stations, home_is, inside_is, all_flows, spare_service}
 
 -- a positive product has positive factors
-second_positive : (g d : ℕ) → 0 < g * d → 0 < d
+pub second_positive : (g d : ℕ) → 0 < g * d → 0 < d
 second_positive g zero h = absurd (omega arith)
 second_positive g (suc d) h = omega arith
 

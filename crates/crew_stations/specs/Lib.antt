@@ -9,3 +9,4 @@ pub mod FleetLaws
 pub mod StateFlows
 pub mod Spreads
 pub mod OneCrew
+pub mod Fleets

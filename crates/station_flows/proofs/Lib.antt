@@ -1,0 +1,3 @@
+-- lemmas, each file on one subject
+pub mod StateRates
+pub mod Enclosing

@@ -1,0 +1,2 @@
+pub mod StateRates
+pub mod CertifiedStates
