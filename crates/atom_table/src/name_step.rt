@@ -53,7 +53,8 @@ fn check_record(units: &NameIndex, atoms: &NameIndex, item: &Record) -> Result<(
         | Record::LineIs { .. }
         | Record::RuleIs { .. }
         | Record::Period { .. }
-        | Record::UnitIs { .. } => Ok(()),
+        | Record::UnitIs { .. }
+        | Record::Crews { .. } => Ok(()),
     }
 }
 

@@ -1,17 +1,19 @@
 -- The parts that records in form give are those of an accepted plan.
-use Rattle.std.proofs.Common.{◌≡◌, ◌∙◌, ℕ, ◌<◌, true, false, refl, sym, subst, arith}
+use Rattle.std.proofs.Common.{◌≡◌, ℕ, ◌<◌, true, false, refl, sym, subst, arith}
 use Rattle.std.specs.Prelude.{Bool, if◌then◌else◌, nat_lt, List, length, Option, Some, None, Result, Ok, Err}
 use Rattle.std.proofs.lemmas.Bool.Decides.{nat_tests}
 use Rattle.hyper_model.specs.Grid.{Grid}
 use Rattle.hyper_model.specs.Groups.{GroupLists}
-use Rattle.hyper_model.specs.Plans.{IsAccepted, IsBetween, IsStable, calls_in, service_in}
+use Rattle.hyper_model.specs.Plans.{IsAccepted, IsBetween, IsStable, all_calls, all_service}
 use Rattle.hyper_model.specs.declared.kinds.Line.{Line}
 use Rattle.hyper_model.specs.declared.kinds.Line.TheVariants as line
 use Rattle.hyper_model.specs.declared.parts.PlanParts.{PlanParts}
 use Rattle.plan_text.specs.Form.{IsInForm}
 use Rattle.plan_text.specs.Reading.{records_of}
 use Rattle.plan_text.specs.Steps.{◌>>=◌, unless_refused}
-use Rattle.plan_text.proofs.InForm.{records_of-form}
+use Rattle.plan_text.proofs.InForm.{records_with-form}
+use Rattle.plan_text.specs.declared.kind.AddedKind.{AddedKind}
+use Rattle.plan_text.specs.declared.kind.AddedKind.TheVariants as added
 use Rattle.plan_text.specs.declared.record.Record.{Record}
 use Rattle.atom_table.specs.Entries.{Entries, HasEntries}
 use Rattle.atom_table.specs.Refusals.{entries_of}
@@ -24,7 +26,7 @@ use Rattle.unit_location.proofs.AcceptedLocations.{has_locations}
 use Rattle.unit_location.proofs.LocationSteps.{located_of-ok}
 use Rattle.preference_rules.specs.Given.{preferences_of}
 use Rattle.preference_rules.proofs.AcceptedLists.{has_lists}
-use Rattle.plan_reader.specs.PlanOf.{parts_of, plan_in, plan_of, plan_result, stable_refusal}
+use Rattle.plan_reader.specs.PlanOf.{AreWholeParts, parts_given, parts_of, plan_in, plan_of, plan_result, stable_refusal}
 use Rattle.plan_reader.specs.Refusals.{of_atom, of_list, of_location, of_text, of_travel}
 use Rattle.plan_reader.specs.Settings.{settings_of}
 use Rattle.plan_reader.specs.declared.refusal.PlanRefusal.{PlanRefusal}
@@ -39,11 +41,9 @@ below_true a b e h = by (nat_lt a b) refl h
     by true t q = grind (arith, nat_tests, t)
     by false t q = absurd (cc)
 
-is_stable : (line : Line) (entries : Entries) → stable_refusal line entries ≡ None
-    → IsStable line (calls_in entries.atoms) (service_in entries.units)
-is_stable line.Zero entries h = tt
-is_stable line.Infinite entries h =
-    below_true (calls_in entries.atoms) (service_in entries.units) (NotStable (calls_in entries.atoms) (service_in entries.units)) h
+pub is_stable : (line : Line) (calls service : ℕ) → stable_refusal line calls service ≡ None → IsStable line calls service
+is_stable line.Zero calls service h = tt
+is_stable line.Infinite calls service h = below_true calls service (NotStable calls service) h
 
 -- the table of the records keeps what its type says
 pub entries_kept : (records : List Record) (entries : Entries) → entries_of records ≡ Ok entries → HasEntries entries
@@ -51,13 +51,13 @@ entries_kept records entries given =
     let (is, passes) = entries_of-ok records entries given in
     subst HasEntries (sym is) (has_entries records passes)
 
-pub accepted_parts : (records : List Record) (settings : Settings) (entries : Entries) (travel located : Grid) (lists : GroupLists)
-    → IsInForm records → settings_of records ≡ Ok settings → entries_of records ≡ Ok entries → travel_of entries records ≡ Ok travel
+pub whole_parts : (more : AddedKind) (records : List Record) (settings : Settings) (entries : Entries) (travel located : Grid) (lists : GroupLists)
+    → IsInForm records → settings_of more records ≡ Ok settings → entries_of records ≡ Ok entries → travel_of entries records ≡ Ok travel
     → located_of entries records ≡ Ok located → preferences_of settings.rule entries located records ≡ Ok lists
-    → stable_refusal settings.line entries ≡ None → IsAccepted (parts_of settings entries lists located travel)
-accepted_parts records settings entries travel located lists form set given trips places preferred stable =
+    → AreWholeParts (parts_of settings entries lists located travel)
+whole_parts more records settings entries travel located lists form set given trips places preferred =
     let period = period_within records form.values in
-    let seen = settings_of-ok records settings set in
+    let seen = settings_of-ok more records settings set in
     record {
       units = has_units records entries (parts_of settings entries lists located travel) form.values given refl;
       atoms = has_atoms records entries (parts_of settings entries lists located travel) form.values given refl refl;
@@ -66,7 +66,20 @@ accepted_parts records settings entries travel located lists form set given trip
       locations = has_locations records entries located (parts_of settings entries lists located travel) places refl refl refl;
       travel = has_travel records entries travel (parts_of settings entries lists located travel) form.values trips refl refl;
       period = subst (λ (s : Settings). IsBetween 1 100000000 s.period) (sym seen) period;
-      stable = is_stable settings.line entries stable;
+    }
+
+-- and with service for all calls that wait they are accepted
+pub accepted_parts : (parts : PlanParts) → AreWholeParts parts
+    → stable_refusal parts.line (all_calls parts) (all_service parts) ≡ None → IsAccepted parts
+accepted_parts parts whole stable =
+    record {
+      units = whole.units;
+      atoms = whole.atoms;
+      lists = whole.lists;
+      locations = whole.locations;
+      travel = whole.travel;
+      period = whole.period;
+      stable = is_stable parts.line (all_calls parts) (all_service parts) stable;
     }
 
 -- the shape of a table of locations
@@ -76,36 +89,46 @@ located_rows records entries located given =
     let is = located_of-ok entries records located given in
     rw is.0 (refl, refl)
 
--- a plan that the steps after a step give
-after_step : {A E : Type 0} (of_reader : E → PlanRefusal) (given : Result A E) (next : A → Result PlanParts PlanRefusal) (plan : PlanParts)
-    → (plan_result of_reader given >>= next) ≡ Ok plan → ((x : A) → given ≡ Ok x → next x ≡ Ok plan → IsAccepted plan) → IsAccepted plan
-after_step of_reader (Ok x) next plan h so = so x refl h
-after_step of_reader (Err e) next plan h so = absurd (cc)
+-- what holds of the parts that the steps after a step give
+module _ (P : PlanParts → Type 0) where
+  pub after_step : {A E : Type 0} (of_reader : E → PlanRefusal) (given : Result A E) (next : A → Result PlanParts PlanRefusal) (parts : PlanParts)
+      → (plan_result of_reader given >>= next) ≡ Ok parts → ((x : A) → given ≡ Ok x → next x ≡ Ok parts → P parts) → P parts
+  after_step of_reader (Ok x) next parts h so = so x refl h
+  after_step of_reader (Err e) next parts h so = absurd (cc)
 
-after_settings : (given : Result Settings PlanRefusal) (next : Settings → Result PlanParts PlanRefusal) (plan : PlanParts)
-    → (given >>= next) ≡ Ok plan → ((x : Settings) → given ≡ Ok x → next x ≡ Ok plan → IsAccepted plan) → IsAccepted plan
-after_settings (Ok x) next plan h so = so x refl h
-after_settings (Err e) next plan h so = absurd (cc)
+  pub after_own : {A : Type 0} (given : Result A PlanRefusal) (next : A → Result PlanParts PlanRefusal) (parts : PlanParts)
+      → (given >>= next) ≡ Ok parts → ((x : A) → given ≡ Ok x → next x ≡ Ok parts → P parts) → P parts
+  after_own (Ok x) next parts h so = so x refl h
+  after_own (Err e) next parts h so = absurd (cc)
 
-after_all : (refused : Option PlanRefusal) (parts plan : PlanParts) → (unless_refused refused >>= λ _. Ok parts) ≡ Ok plan
-    → (refused ≡ None → IsAccepted parts) → IsAccepted plan
-after_all None parts plan h so = let is : parts ≡ plan = cc in subst IsAccepted is (so refl)
-after_all (Some e) parts plan h so = absurd (cc)
+  after_all : (refused : Option PlanRefusal) (given parts : PlanParts) → (unless_refused refused >>= λ _. Ok given) ≡ Ok parts
+      → (refused ≡ None → P given) → P parts
+  after_all None given parts h so = let is : given ≡ parts = cc in subst P is (so refl)
+  after_all (Some e) given parts h so = absurd (cc)
+
+-- the parts that records in form give are whole
+pub parts_given-whole : (more : AddedKind) (records : List Record) (parts : PlanParts) → IsInForm records
+    → parts_given more records ≡ Ok parts → AreWholeParts parts
+unfolding parts_given
+parts_given-whole more records parts form h =
+    after_own AreWholeParts (settings_of more records) _ parts h (λ settings set h1.
+    after_step AreWholeParts of_atom (entries_of records) _ parts h1 (λ entries given h2.
+    after_step AreWholeParts of_travel (travel_of entries records) _ parts h2 (λ travel trips h3.
+    after_step AreWholeParts of_location (located_of entries records) _ parts h3 (λ located places h4.
+    after_step AreWholeParts of_list (preferences_of settings.rule entries located records) _ parts h4 (λ lists preferred h5.
+    let is : parts_of settings entries lists located travel ≡ parts = cc in
+    subst AreWholeParts is (whole_parts more records settings entries travel located lists form set given trips places preferred))))))
 
 -- the plan of records in form is accepted, and so is that of a text
 plan_in-accepted : (records : List Record) (plan : PlanParts) → IsInForm records → plan_in records ≡ Ok plan → IsAccepted plan
 unfolding plan_in
 plan_in-accepted records plan form h =
-    after_settings (settings_of records) _ plan h (λ settings set h1.
-    after_step of_atom (entries_of records) _ plan h1 (λ entries given h2.
-    after_step of_travel (travel_of entries records) _ plan h2 (λ travel trips h3.
-    after_step of_location (located_of entries records) _ plan h3 (λ located places h4.
-    after_step of_list (preferences_of settings.rule entries located records) _ plan h4 (λ lists preferred h5.
-    after_all (stable_refusal settings.line entries) (parts_of settings entries lists located travel) plan h5
-    (λ stable. accepted_parts records settings entries travel located lists form set given trips places preferred stable))))))
+    after_own IsAccepted (parts_given added.Group records) _ plan h (λ parts given h1.
+    after_all IsAccepted (stable_refusal parts.line (all_calls parts) (all_service parts)) parts plan h1
+    (λ stable. accepted_parts parts (parts_given-whole added.Group records parts form given) stable))
 
 pub plan_of-accepted : (bytes : List ℕ) (plan : PlanParts) → plan_of bytes ≡ Ok plan → IsAccepted plan
 unfolding plan_of
 plan_of-accepted bytes plan h =
-    after_step of_text (records_of bytes) plan_in plan h
-    (λ records read given. plan_in-accepted records plan (records_of-form bytes records read) given)
+    after_step IsAccepted of_text (records_of bytes) plan_in plan h
+    (λ records read given. plan_in-accepted records plan (records_with-form added.Group bytes records read) given)

@@ -1,24 +1,24 @@
 -- The refusal of records is that of the first condition that holds, and without one they give a plan.
-use Rattle.std.proofs.Common.{◌≡◌, ◌∙◌, ℕ, zero, suc, ◌+◌, ◌<◌, List, [], ◌∷◌, length, refl, sym, ap, arith}
+use Rattle.std.proofs.Common.{◌≡◌, ◌∙◌, ℕ, zero, suc, ◌<◌, List, [], ◌∷◌, ◌++◌, length, refl, sym, ap, arith}
 use Rattle.std.specs.Prelude.{Option, Some, None, Result, Ok, Err}
 use Rattle.std.specs.Option.{option_map, option_or}
 use Rattle.hyper_model.specs.Grid.{Grid}
-use Rattle.hyper_model.specs.Groups.{GroupLists}
 use Rattle.hyper_model.specs.declared.kinds.Rule.{Rule}
 use Rattle.hyper_model.specs.declared.kinds.Rule.TheVariants as rule
 use Rattle.hyper_model.specs.declared.parts.PlanParts.{PlanParts}
 use Rattle.plan_text.specs.Steps.{◌>>=◌, unless_refused}
+use Rattle.plan_text.specs.declared.kind.AddedKind.{AddedKind}
+use Rattle.plan_text.specs.declared.kind.AddedKind.TheVariants as added
 use Rattle.plan_text.specs.declared.record.Record.{Record}
-use Rattle.atom_table.specs.Entries.{Entries, atom_names, atoms_in, entries_in, unit_names, units_in}
+use Rattle.atom_table.specs.Entries.{Entries, atom_names, entries_in, unit_names}
 use Rattle.atom_table.specs.Pairs.{table_of}
 use Rattle.atom_table.specs.Refusals.{atom_records_refusal, entries_of, entries_refusal, names_refusal, none_refusal, sum_refusal, unit_records_refusal}
 use Rattle.travel_table.specs.Travel.{gap_refusal, travel_of, trips_in, trips_refusal}
 use Rattle.unit_location.specs.Located.{located_in, located_of, shares_refusal, sums_refusal}
-use Rattle.preference_rules.specs.Centred.{centred_lists}
-use Rattle.preference_rules.specs.Given.{asked_records_refusal, centred_lists_of, given_lists, given_lists_of, lists_refusal, preferences_of, twice_records_refusal}
+use Rattle.preference_rules.specs.Given.{asked_records_refusal, centred_lists_of, given_lists_of, preferences_of}
 use Rattle.preference_rules.specs.declared.refusal.ListRefusal.{ListRefusal}
-use Rattle.plan_reader.specs.Conditions.{Condition, IsFirstCondition, atom_lists_refusal, condition_at, conditions, list_records_refusal, lists_in, parts_in}
-use Rattle.plan_reader.specs.PlanOf.{parts_of, plan_in, plan_result, stable_refusal}
+use Rattle.plan_reader.specs.Conditions.{Condition, IsFirstCondition, atom_lists_refusal, condition_at, conditions, list_records_refusal, lists_in, parts_conditions, parts_in, stable_condition}
+use Rattle.plan_reader.specs.PlanOf.{parts_given, parts_of, plan_in, plan_result}
 use Rattle.plan_reader.specs.Refusals.{of_atom, of_list, of_location, of_travel}
 use Rattle.plan_reader.specs.Settings.{settings_in, settings_of, settings_refusal}
 use Rattle.plan_reader.specs.declared.refusal.PlanRefusal.{PlanRefusal}
@@ -68,6 +68,18 @@ none_holds [] records h = refl
 none_holds (condition ∷ others) records h =
     ap (λ (o : Option PlanRefusal). option_or o (first_refusal others records)) (h zero (omega arith))
     ∙ none_holds others records (λ k lt. h (suc k) (omega arith))
+
+-- the first refusal of conditions, and of others after them
+or_assoc : {A : Type 0} (a b c : Option A) → option_or a (option_or b c) ≡ option_or (option_or a b) c
+or_assoc None b c = refl
+or_assoc (Some x) b c = refl
+
+first_append : (all others : List Condition) (records : List Record)
+    → option_or (first_refusal all records) (first_refusal others records) ≡ first_refusal (all ++ others) records
+first_append [] others records = refl
+first_append (condition ∷ all) others records =
+    sym (or_assoc (condition records) (first_refusal all records) (first_refusal others records))
+    ∙ ap (option_or (condition records)) (first_append all others records)
 
 -- a step, and the steps after it
 abbrev Ends : Option PlanRefusal → PlanParts → Result PlanParts PlanRefusal → Type 0
@@ -128,7 +140,7 @@ or_nothing : {A : Type 0} (o : Option ListRefusal) (x : A) → (unless_refused o
 or_nothing None x = refl
 or_nothing (Some e) x = refl
 
-module _ (records : List Record) where
+module _ (more : AddedKind) (records : List Record) where
   abbrev entries : Entries
   entries = entries_in records
 
@@ -164,18 +176,14 @@ module _ (records : List Record) where
   unfolding located_of
   located_are = refl
 
-  settings_are : settings_of records ≡ (unless_refused (settings_refusal records) >>= λ _. Ok settings)
+  settings_are : settings_of more records ≡ (unless_refused (settings_refusal more records) >>= λ _. Ok settings)
   unfolding settings_of
   settings_are = refl
 
-  -- the plan from each step on
-  abbrev from_stable : Settings → Entries → Grid → Grid → GroupLists → Result PlanParts PlanRefusal
-  from_stable set given trips places lists =
-      unless_refused (stable_refusal set.line given) >>= λ _. Ok (parts_of set given lists places trips)
-
+  -- the parts from each step on
   abbrev from_lists : Settings → Entries → Grid → Grid → Result PlanParts PlanRefusal
   from_lists set given trips places =
-      plan_result of_list (preferences_of set.rule given places records) >>= from_stable set given trips places
+      plan_result of_list (preferences_of set.rule given places records) >>= λ lists. Ok (parts_of set given lists places trips)
 
   abbrev from_places : Settings → Entries → Grid → Result PlanParts PlanRefusal
   from_places set given trips = plan_result of_location (located_of given records) >>= from_lists set given trips
@@ -187,13 +195,10 @@ module _ (records : List Record) where
   from_entries set = plan_result of_atom (entries_of records) >>= from_travel set
 
   -- the conditions from each step on
-  abbrev stable_on : Option PlanRefusal
-  stable_on = option_or (stable_refusal settings.line entries) None
-
   abbrev lists_on : Option PlanRefusal
   lists_on =
       option_or (option_map of_list (list_records_refusal settings.rule entries records))
-      (option_or (option_map of_list (atom_lists_refusal settings.rule entries records)) stable_on)
+      (option_or (option_map of_list (atom_lists_refusal settings.rule entries records)) None)
 
   abbrev places_on : Option PlanRefusal
   places_on =
@@ -205,12 +210,11 @@ module _ (records : List Record) where
 
   ends_lists : Ends lists_on (parts_in records) (from_lists settings entries travel located)
   ends_lists =
-      same_end (option_or (option_map of_list (lists_refused settings.rule)) stable_on) lists_on (parts_in records)
+      same_end (option_or (option_map of_list (lists_refused settings.rule)) None) lists_on (parts_in records)
       (from_lists settings entries travel located)
-      (flat of_list (list_records_refusal settings.rule entries records) (atom_lists_refusal settings.rule entries records) stable_on)
+      (flat of_list (list_records_refusal settings.rule entries records) (atom_lists_refusal settings.rule entries records) None)
       (step of_list (preferences_of settings.rule entries located records) (lists_refused settings.rule) (lists_in settings.rule records)
-      (from_stable settings entries travel located) stable_on (parts_in records) (lists_are settings.rule)
-      (last_step (stable_refusal settings.line entries) (parts_in records)))
+      (λ lists. Ok (parts_of settings entries lists located travel)) None (parts_in records) (lists_are settings.rule) refl)
 
   ends_places : Ends places_on (parts_in records) (from_places settings entries travel)
   ends_places =
@@ -231,18 +235,29 @@ module _ (records : List Record) where
       ends_travel_places : Ends places_on (parts_in records) (from_places settings entries travel)
       ends_travel_places = ends_places
 
-  ends_all : Ends (first_refusal conditions records) (parts_in records) (settings_of records >>= from_entries)
+  ends_all : Ends (first_refusal (parts_conditions more) records) (parts_in records) (settings_of more records >>= from_entries)
   ends_all =
-      own_step (settings_of records) (settings_refusal records) settings from_entries _ (parts_in records) settings_are
+      own_step (settings_of more records) (settings_refusal more records) settings from_entries _ (parts_in records) settings_are
       (same_end (option_or (option_map of_atom (entries_refusal records entries)) travel_on) _ (parts_in records) (from_entries settings)
       (flat_five of_atom (unit_records_refusal records) (atom_records_refusal entries.units records) (none_refusal entries.units entries.atoms)
       (names_refusal (unit_names entries.units) (atom_names entries.atoms) records) (sum_refusal entries.units entries.atoms) travel_on)
       (step of_atom (entries_of records) (entries_refusal records entries) entries (from_travel settings) travel_on (parts_in records)
       entries_are ends_travel))
 
-  plan_is : Ends (first_refusal conditions records) (parts_in records) (plan_in records)
-  unfolding plan_in
-  plan_is = ends_all
+  parts_are : Ends (first_refusal (parts_conditions more) records) (parts_in records) (parts_given more records)
+  unfolding parts_given
+  parts_are = ends_all
+
+-- the plan of records: the conditions of their parts, and that of calls that wait
+plan_is : (records : List Record) → Ends (first_refusal conditions records) (parts_in records) (plan_in records)
+unfolding plan_in
+plan_is records =
+    same_end (option_or (first_refusal (parts_conditions added.Group) records) (option_or (stable_condition records) None))
+    (first_refusal conditions records) (parts_in records) (plan_in records)
+    (first_append (parts_conditions added.Group) (stable_condition ∷ []) records)
+    (own_step (parts_given added.Group records) (first_refusal (parts_conditions added.Group) records) (parts_in records) _
+    (option_or (stable_condition records) None) (parts_in records) (parts_are added.Group records)
+    (last_step (stable_condition records) (parts_in records)))
 
 refusal_of : (refused : Option PlanRefusal) (parts : PlanParts) (e : PlanRefusal) → (unless_refused refused >>= λ _. Ok parts) ≡ Err e
     → refused ≡ Some e

@@ -2,3 +2,4 @@
 pub mod SettingSteps
 pub mod AcceptedPlan
 pub mod FirstCondition
+pub mod SingleParts

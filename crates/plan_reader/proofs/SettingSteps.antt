@@ -1,6 +1,6 @@
 -- The values that records give the settings, with one record more.
 use Rattle.std.proofs.Common.{◌≡◌, ◌∙◌, ℕ, ◌+◌, ◌<◌, ◌≤◌, true, false, List, [], ◌∷◌, ◌++◌, length, get_or, take, refl, sym, ap, arith}
-use Rattle.std.specs.Prelude.{Bool, ◌==◌, ◌||◌, if◌then◌else◌, Option, Some, None, Result, Ok, Err, All, is_some, unwrap_or}
+use Rattle.std.specs.Prelude.{Bool, ◌==◌, ◌||◌, if◌then◌else◌, Option, Some, None, Ok, Err, All, is_some, unwrap_or}
 use Rattle.std.specs.List.{list_any}
 use Rattle.std.specs.Option.{option_or}
 use Rattle.std.proofs.lemmas.List.{take_all, take_more}
@@ -10,7 +10,9 @@ use Rattle.hyper_model.specs.Plans.{IsBetween}
 use Rattle.hyper_model.specs.declared.kinds.Line.{Line}
 use Rattle.hyper_model.specs.declared.kinds.Rule.{Rule}
 use Rattle.plan_text.specs.Form.{HasValues, at_of}
+use Rattle.plan_text.specs.Kinds.{added_version}
 use Rattle.plan_text.specs.Steps.{◌>>=◌, unless_refused}
+use Rattle.plan_text.specs.declared.kind.AddedKind.{AddedKind}
 use Rattle.plan_text.specs.declared.record.Record.{Record}
 use Rattle.plan_text.specs.declared.record.Record.TheVariants as rec
 use Rattle.plan_reader.specs.Settings.{are_one_setting, first_value, line_in, period_in, rule_in, setting_refusal, settings_in, settings_of, settings_refusal, version_in, version_refusal}
@@ -79,41 +81,42 @@ other_record before r v l u p =
     (first_value rule_in (before ++ r ∷ [])) (first_value rule_in before) (first_value period_in (before ++ r ∷ [])) (first_value period_in before)
     (without_value version_in before r v) (without_value line_in before r l) (without_value rule_in before r u) (without_value period_in before r p)
 
-pub values_in-push : (before : List Record) (r : Record) → value_refusal (values_in before) r ≡ None
+pub values_in-push : (more : AddedKind) (before : List Record) (r : Record) → value_refusal more (values_in before) r ≡ None
     → values_in (before ++ r ∷ []) ≡ with_setting (values_in before) r
-values_in-push before (rec.Version at number) h =
+values_in-push more before (rec.Version at number) h =
     same_values (first_value version_in (before ++ rec.Version at number ∷ [])) (Some number) (first_value line_in (before ++ rec.Version at number ∷ [])) (first_value line_in before)
     (first_value rule_in (before ++ rec.Version at number ∷ [])) (first_value rule_in before) (first_value period_in (before ++ rec.Version at number ∷ [])) (first_value period_in before)
-    (with_first_value version_in before (rec.Version at number) number refl (fresh (is_some (first_value version_in before)) at (if (number == 1) || (number == 2) then None else Some (Version at)) h)) (without_value line_in before (rec.Version at number) refl)
+    (with_first_value version_in before (rec.Version at number) number refl (fresh (is_some (first_value version_in before)) at (if (number == 1) || (number == added_version more) then None else Some (Version at)) h)) (without_value line_in before (rec.Version at number) refl)
     (without_value rule_in before (rec.Version at number) refl) (without_value period_in before (rec.Version at number) refl)
-values_in-push before (rec.LineIs at line) h =
+values_in-push more before (rec.LineIs at line) h =
     same_values (first_value version_in (before ++ rec.LineIs at line ∷ [])) (first_value version_in before) (first_value line_in (before ++ rec.LineIs at line ∷ [])) (Some line)
     (first_value rule_in (before ++ rec.LineIs at line ∷ [])) (first_value rule_in before) (first_value period_in (before ++ rec.LineIs at line ∷ [])) (first_value period_in before)
     (without_value version_in before (rec.LineIs at line) refl) (with_first_value line_in before (rec.LineIs at line) line refl (fresh (is_some (first_value line_in before)) at None h))
     (without_value rule_in before (rec.LineIs at line) refl) (without_value period_in before (rec.LineIs at line) refl)
-values_in-push before (rec.RuleIs at rule) h =
+values_in-push more before (rec.RuleIs at rule) h =
     same_values (first_value version_in (before ++ rec.RuleIs at rule ∷ [])) (first_value version_in before) (first_value line_in (before ++ rec.RuleIs at rule ∷ [])) (first_value line_in before)
     (first_value rule_in (before ++ rec.RuleIs at rule ∷ [])) (Some rule) (first_value period_in (before ++ rec.RuleIs at rule ∷ [])) (first_value period_in before)
     (without_value version_in before (rec.RuleIs at rule) refl) (without_value line_in before (rec.RuleIs at rule) refl)
     (with_first_value rule_in before (rec.RuleIs at rule) rule refl (fresh (is_some (first_value rule_in before)) at None h)) (without_value period_in before (rec.RuleIs at rule) refl)
-values_in-push before (rec.Period at seconds) h =
+values_in-push more before (rec.Period at seconds) h =
     same_values (first_value version_in (before ++ rec.Period at seconds ∷ [])) (first_value version_in before) (first_value line_in (before ++ rec.Period at seconds ∷ [])) (first_value line_in before)
     (first_value rule_in (before ++ rec.Period at seconds ∷ [])) (first_value rule_in before) (first_value period_in (before ++ rec.Period at seconds ∷ [])) (Some seconds)
     (without_value version_in before (rec.Period at seconds) refl) (without_value line_in before (rec.Period at seconds) refl)
     (without_value rule_in before (rec.Period at seconds) refl) (with_first_value period_in before (rec.Period at seconds) seconds refl (fresh (is_some (first_value period_in before)) at None h))
-values_in-push before (rec.UnitIs at name rate) h = other_record before (rec.UnitIs at name rate) refl refl refl refl
-values_in-push before (rec.AtomIs at name rate x y unit) h = other_record before (rec.AtomIs at name rate x y unit) refl refl refl refl
-values_in-push before (rec.Travel at origin target seconds) h = other_record before (rec.Travel at origin target seconds) refl refl refl refl
-values_in-push before (rec.Located at unit atom thousandths) h = other_record before (rec.Located at unit atom thousandths) refl refl refl refl
-values_in-push before (rec.Prefer at atom units) h = other_record before (rec.Prefer at atom units) refl refl refl refl
-values_in-push before (rec.Group at atom units) h = other_record before (rec.Group at atom units) refl refl refl refl
+values_in-push more before (rec.UnitIs at name rate) h = other_record before (rec.UnitIs at name rate) refl refl refl refl
+values_in-push more before (rec.AtomIs at name rate x y unit) h = other_record before (rec.AtomIs at name rate x y unit) refl refl refl refl
+values_in-push more before (rec.Travel at origin target seconds) h = other_record before (rec.Travel at origin target seconds) refl refl refl refl
+values_in-push more before (rec.Located at unit atom thousandths) h = other_record before (rec.Located at unit atom thousandths) refl refl refl refl
+values_in-push more before (rec.Prefer at atom units) h = other_record before (rec.Prefer at atom units) refl refl refl refl
+values_in-push more before (rec.Group at atom units) h = other_record before (rec.Group at atom units) refl refl refl refl
+values_in-push more before (rec.Crews at unit count) h = other_record before (rec.Crews at unit count) refl refl refl refl
 
-pub values-more : (records : List Record) (i : ℕ) (r : Record) (values new : Values) → i < length records → get_or records i r ≡ r
-    → values ≡ values_in (take i records) → value_refusal (values_in (take i records)) r ≡ None → new ≡ with_setting values r
+pub values-more : (more : AddedKind) (records : List Record) (i : ℕ) (r : Record) (values new : Values) → i < length records → get_or records i r ≡ r
+    → values ≡ values_in (take i records) → value_refusal more (values_in (take i records)) r ≡ None → new ≡ with_setting values r
     → new ≡ values_in (take (i + 1) records)
-values-more records i r values new lt read is passed made =
-    let more : take (i + 1) records ≡ take i records ++ r ∷ [] = rw read at (take_more records i r lt) in
-    made ∙ ap (λ (v : Values). with_setting v r) is ∙ sym (values_in-push (take i records) r passed) ∙ ap values_in (sym more)
+values-more more records i r values new lt read is passed made =
+    let next : take (i + 1) records ≡ take i records ++ r ∷ [] = rw read at (take_more records i r lt) in
+    made ∙ ap (λ (v : Values). with_setting v r) is ∙ sym (values_in-push more (take i records) r passed) ∙ ap values_in (sym next)
 
 pub values-all : (records : List Record) (i : ℕ) (values : Values) → length records ≤ i → values ≡ values_in (take i records) → values ≡ values_in records
 values-all records i values le is = is ∙ ap values_in (take_all i records le)
@@ -152,45 +155,49 @@ alike : (has earlier : Bool) (at : ℕ) (rest : Option PlanRefusal) → has ≡ 
     → ◌≡◌ {A = Option PlanRefusal} (if has then Some (SettingTwice at) else rest) (if earlier then Some (SettingTwice at) else rest)
 alike has earlier at rest same = ap {B = Option PlanRefusal} (λ (b : Bool). if b then Some (SettingTwice at) else rest) same
 
-unlike : (before : List Record) (r : Record) → ((other : Record) → are_one_setting r other ≡ false) → version_refusal r ≡ None
-    → None ≡ setting_refusal before r
-unlike before r none passed =
+unlike : (more : AddedKind) (before : List Record) (r : Record) → ((other : Record) → are_one_setting r other ≡ false) → version_refusal more r ≡ None
+    → None ≡ setting_refusal more before r
+unlike more before r none passed =
     let no : list_any (are_one_setting r) before ≡ false = list_any_none (are_one_setting r) before (λ k d lt. none (get_or before k d)) in
-    sym (ap {B = Option PlanRefusal} (λ (b : Bool). if b then Some (SettingTwice (at_of r)) else version_refusal r) no ∙ passed)
+    sym (ap {B = Option PlanRefusal} (λ (b : Bool). if b then Some (SettingTwice (at_of r)) else version_refusal more r) no ∙ passed)
 
-pub value_refusal-is : (before : List Record) (r : Record) → value_refusal (values_in before) r ≡ setting_refusal before r
-value_refusal-is before (rec.Version at number) =
+pub value_refusal-is : (more : AddedKind) (before : List Record) (r : Record)
+    → value_refusal more (values_in before) r ≡ setting_refusal more before r
+value_refusal-is more before (rec.Version at number) =
     alike (is_some (first_value version_in before)) (list_any (are_one_setting (rec.Version at number)) before) at
-    (version_refusal (rec.Version at number))
+    (version_refusal more (rec.Version at number))
     (has_value-is version_in (are_one_setting (rec.Version at number)) before (version_is at number))
-value_refusal-is before (rec.LineIs at line) =
+value_refusal-is more before (rec.LineIs at line) =
     alike (is_some (first_value line_in before)) (list_any (are_one_setting (rec.LineIs at line)) before) at None
     (has_value-is line_in (are_one_setting (rec.LineIs at line)) before (line_is at line))
-value_refusal-is before (rec.RuleIs at rule) =
+value_refusal-is more before (rec.RuleIs at rule) =
     alike (is_some (first_value rule_in before)) (list_any (are_one_setting (rec.RuleIs at rule)) before) at None
     (has_value-is rule_in (are_one_setting (rec.RuleIs at rule)) before (rule_is at rule))
-value_refusal-is before (rec.Period at seconds) =
+value_refusal-is more before (rec.Period at seconds) =
     alike (is_some (first_value period_in before)) (list_any (are_one_setting (rec.Period at seconds)) before) at None
     (has_value-is period_in (are_one_setting (rec.Period at seconds)) before (period_is at seconds))
-value_refusal-is before (rec.UnitIs at name rate) = unlike before (rec.UnitIs at name rate) (λ other. refl) refl
-value_refusal-is before (rec.AtomIs at name rate x y unit) = unlike before (rec.AtomIs at name rate x y unit) (λ other. refl) refl
-value_refusal-is before (rec.Travel at origin target seconds) = unlike before (rec.Travel at origin target seconds) (λ other. refl) refl
-value_refusal-is before (rec.Located at unit atom thousandths) = unlike before (rec.Located at unit atom thousandths) (λ other. refl) refl
-value_refusal-is before (rec.Prefer at atom units) = unlike before (rec.Prefer at atom units) (λ other. refl) refl
-value_refusal-is before (rec.Group at atom units) = unlike before (rec.Group at atom units) (λ other. refl) refl
+value_refusal-is more before (rec.UnitIs at name rate) = unlike more before (rec.UnitIs at name rate) (λ other. refl) refl
+value_refusal-is more before (rec.AtomIs at name rate x y unit) = unlike more before (rec.AtomIs at name rate x y unit) (λ other. refl) refl
+value_refusal-is more before (rec.Travel at origin target seconds) = unlike more before (rec.Travel at origin target seconds) (λ other. refl) refl
+value_refusal-is more before (rec.Located at unit atom thousandths) = unlike more before (rec.Located at unit atom thousandths) (λ other. refl) refl
+value_refusal-is more before (rec.Prefer at atom units) = unlike more before (rec.Prefer at atom units) (λ other. refl) refl
+value_refusal-is more before (rec.Group at atom units) = unlike more before (rec.Group at atom units) (λ other. refl) refl
+value_refusal-is more before (rec.Crews at unit count) = unlike more before (rec.Crews at unit count) (λ other. refl) refl
 
-pub settings_of-refused : (records : List Record) (e : PlanRefusal) → settings_refusal records ≡ Some e → settings_of records ≡ Err e
+pub settings_of-refused : (more : AddedKind) (records : List Record) (e : PlanRefusal) → settings_refusal more records ≡ Some e
+    → settings_of more records ≡ Err e
 unfolding settings_of
-settings_of-refused records e h = rw h refl
+settings_of-refused more records e h = rw h refl
 
-pub settings_of-done : (records : List Record) (settings : Settings) → settings_refusal records ≡ None
-    → settings ≡ settings_of_values (values_in records) → settings_of records ≡ Ok settings
+pub settings_of-done : (more : AddedKind) (records : List Record) (settings : Settings) → settings_refusal more records ≡ None
+    → settings ≡ settings_of_values (values_in records) → settings_of more records ≡ Ok settings
 unfolding settings_of
-settings_of-done records settings none is = rw none (ap Ok (sym is))
+settings_of-done more records settings none is = rw none (ap Ok (sym is))
 
-pub settings_of-ok : (records : List Record) (settings : Settings) → settings_of records ≡ Ok settings → settings ≡ settings_in records
+pub settings_of-ok : (more : AddedKind) (records : List Record) (settings : Settings) → settings_of more records ≡ Ok settings
+    → settings ≡ settings_in records
 unfolding settings_of
-settings_of-ok records settings h = by (settings_refusal records) h
+settings_of-ok more records settings h = by (settings_refusal more records) h
   where
     by : (o : Option PlanRefusal) → (unless_refused o >>= λ _. Ok (settings_in records)) ≡ Ok settings → settings ≡ settings_in records
     by None q = cc

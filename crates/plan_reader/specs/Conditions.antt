@@ -1,11 +1,13 @@
 -- All conditions under which the records of a text are refused, as one list in the order in which they are judged.
-use Rattle.std.specs.Prelude.{◌≡◌, ℕ, ◌<◌, List, [], ◌∷◌, length, slice_index_or, Option, Some, None}
-use Rattle.std.specs.Option.{option_map, option_or}
-use Rattle.hyper_model.specs.Grid.{Grid}
+use Rattle.std.specs.Prelude.{◌≡◌, ℕ, ◌<◌, List, [], ◌∷◌, ◌++◌, length, slice_index_or, Option, Some, None}
+use Rattle.std.specs.Option.{option_map}
 use Rattle.hyper_model.specs.Groups.{GroupLists}
+use Rattle.hyper_model.specs.Plans.{calls_in, service_in}
 use Rattle.hyper_model.specs.declared.kinds.Rule.{Rule}
 use Rattle.hyper_model.specs.declared.kinds.Rule.TheVariants as rule
 use Rattle.hyper_model.specs.declared.parts.PlanParts.{PlanParts}
+use Rattle.plan_text.specs.declared.kind.AddedKind.{AddedKind}
+use Rattle.plan_text.specs.declared.kind.AddedKind.TheVariants as added
 use Rattle.plan_text.specs.declared.record.Record.{Record}
 use Rattle.atom_table.specs.Entries.{Entries, atom_names, atoms_in, entries_in, unit_names, units_in}
 use Rattle.atom_table.specs.Refusals.{atom_records_refusal, names_refusal, none_refusal, sum_refusal, unit_records_refusal}
@@ -36,10 +38,11 @@ atom_lists_refusal rule.Given entries records = lists_refusal (unit_names entrie
 atom_lists_refusal rule.Strict entries records = None
 atom_lists_refusal rule.Modified entries records = None
 
-abbrev pub conditions : List Condition
-conditions =
+-- those of the parts, in a text to which this kind can be added
+abbrev pub parts_conditions : AddedKind → List Condition
+parts_conditions more =
     -- a setting twice, or an unknown version
-    settings_refusal
+    settings_refusal more
     -- a unit twice, or too many; an atom twice, or too many
     ∷ (λ records. option_map of_atom (unit_records_refusal records))
     ∷ (λ records. option_map of_atom (atom_records_refusal (units_in records) records))
@@ -58,9 +61,16 @@ conditions =
     -- a list that is not asked for, or twice; a list that is missing, or not whole
     ∷ (λ records. option_map of_list (list_records_refusal (settings_in records).rule (entries_in records) records))
     ∷ (λ records. option_map of_list (atom_lists_refusal (settings_in records).rule (entries_in records) records))
-    -- calls that would queue without end
-    ∷ (λ records. stable_refusal (settings_in records).line (entries_in records))
     ∷ []
+
+-- calls that would queue without end
+abbrev pub stable_condition : Condition
+stable_condition records =
+    stable_refusal (settings_in records).line (calls_in (entries_in records).atoms) (service_in (entries_in records).units)
+
+-- all of them
+abbrev pub conditions : List Condition
+conditions = parts_conditions added.Group ++ stable_condition ∷ []
 
 -- the condition at a place of a list, counted from 0
 abbrev pub condition_at : List Condition → ℕ → Condition

@@ -2,6 +2,7 @@
 use Rattle.std.specs.Prelude.{if◌then◌else◌, Option, Some, None, is_some, unwrap_or}
 use Rattle.hyper_model.specs.declared.kinds.Line.TheVariants as line
 use Rattle.hyper_model.specs.declared.kinds.Rule.TheVariants as rule
+use Rattle.plan_text.specs.declared.kind.AddedKind.{AddedKind}
 use Rattle.plan_text.specs.declared.record.Record.{Record}
 use Rattle.plan_text.specs.declared.record.Record.TheVariants as rec
 use Rattle.plan_reader.specs.Settings.{version_refusal}
@@ -11,14 +12,14 @@ use Rattle.plan_reader.specs.declared.settings.Settings.{Settings}
 use Rattle.plan_reader.specs.declared.settings.TheConstants.{HOUR}
 use Rattle.plan_reader.specs.declared.settings.Values.{Values}
 
--- a record after those that gave these values: its setting may have none yet, and a version has to be 1 or 2
-abbrev pub value_refusal : Values → Record → Option PlanRefusal
-value_refusal values (rec.Version at number) =
-    if is_some values.version then Some (SettingTwice at) else version_refusal (rec.Version at number)
-value_refusal values (rec.LineIs at line) = if is_some values.line then Some (SettingTwice at) else None
-value_refusal values (rec.RuleIs at rule) = if is_some values.rule then Some (SettingTwice at) else None
-value_refusal values (rec.Period at seconds) = if is_some values.period then Some (SettingTwice at) else None
-value_refusal values _ = None
+-- a record after those that gave these values: its setting may have none yet, and a version has to be known
+abbrev pub value_refusal : AddedKind → Values → Record → Option PlanRefusal
+value_refusal more values (rec.Version at number) =
+    if is_some values.version then Some (SettingTwice at) else version_refusal more (rec.Version at number)
+value_refusal more values (rec.LineIs at line) = if is_some values.line then Some (SettingTwice at) else None
+value_refusal more values (rec.RuleIs at rule) = if is_some values.rule then Some (SettingTwice at) else None
+value_refusal more values (rec.Period at seconds) = if is_some values.period then Some (SettingTwice at) else None
+value_refusal more values _ = None
 
 -- the values with that of one record more
 abbrev pub with_setting : Values → Record → Values

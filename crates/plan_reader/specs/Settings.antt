@@ -7,7 +7,9 @@ use Rattle.hyper_model.specs.declared.kinds.Line.TheVariants as line
 use Rattle.hyper_model.specs.declared.kinds.Rule.{Rule}
 use Rattle.hyper_model.specs.declared.kinds.Rule.TheVariants as rule
 use Rattle.plan_text.specs.Form.{at_of}
+use Rattle.plan_text.specs.Kinds.{added_version}
 use Rattle.plan_text.specs.Steps.{◌>>=◌, first_over, unless_refused}
+use Rattle.plan_text.specs.declared.kind.AddedKind.{AddedKind}
 use Rattle.plan_text.specs.declared.record.Record.{Record}
 use Rattle.plan_text.specs.declared.record.Record.TheVariants as rec
 use Rattle.plan_reader.specs.declared.refusal.PlanRefusal.{PlanRefusal}
@@ -40,19 +42,19 @@ are_one_setting (rec.RuleIs at rule) (rec.RuleIs other_at other) = true
 are_one_setting (rec.Period at seconds) (rec.Period other_at other) = true
 are_one_setting _ _ = false
 
--- a version is 1 or 2
-abbrev pub version_refusal : Record → Option PlanRefusal
-version_refusal (rec.Version at number) = if (number == 1) || (number == 2) then None else Some (Version at)
-version_refusal _ = None
+-- a version is 1, or that of the kind of record that can be added
+abbrev pub version_refusal : AddedKind → Record → Option PlanRefusal
+version_refusal more (rec.Version at number) = if (number == 1) || (number == added_version more) then None else Some (Version at)
+version_refusal more _ = None
 
--- A record after others: none of them may be of the same kind of setting, and a version has to be 1 or 2.
-abbrev pub setting_refusal : List Record → Record → Option PlanRefusal
-setting_refusal before r =
-    if list_any (are_one_setting r) before then Some (SettingTwice (at_of r)) else version_refusal r
+-- A record after others: none of them may be of the same kind of setting, and a version has to be known.
+abbrev pub setting_refusal : AddedKind → List Record → Record → Option PlanRefusal
+setting_refusal more before r =
+    if list_any (are_one_setting r) before then Some (SettingTwice (at_of r)) else version_refusal more r
 
 -- the first such record
-abbrev pub settings_refusal : List Record → Option PlanRefusal
-settings_refusal records = first_over setting_refusal [] records
+abbrev pub settings_refusal : AddedKind → List Record → Option PlanRefusal
+settings_refusal more records = first_over (setting_refusal more) [] records
 
 -- the value that the first record for a setting gives it
 abbrev pub first_value : {A : Type 0} → (Record → Option A) → List Record → Option A
@@ -69,5 +71,5 @@ settings_in records = record {
 }
 
 -- the settings of records that are not refused
-unfoldable pub settings_of : List Record → Result Settings PlanRefusal
-settings_of records = unless_refused (settings_refusal records) >>= λ _. Ok (settings_in records)
+unfoldable pub settings_of : AddedKind → List Record → Result Settings PlanRefusal
+settings_of more records = unless_refused (settings_refusal more records) >>= λ _. Ok (settings_in records)

@@ -5,5 +5,5 @@ mod plan;
 mod refusal;
 mod settings;
 
-pub use plan::{law_first_condition, law_plan, read_plan};
+pub use plan::{check_stable, law_first_condition, law_plan, read_parts, read_plan};
 pub use refusal::PlanRefusal;

@@ -7,13 +7,13 @@ ghost use Rattle.plan_text.specs.declared.record.Record.{Record};
 ghost use Rattle.plan_reader.specs.Conditions.{IsFirstCondition, condition_at, conditions, parts_in};
 ghost use Rattle.plan_reader.specs.declared.refusal.PlanRefusal.{PlanRefusal};
 ghost use Rattle.plan_reader.specs.PlanOf as spec;
-ghost use Rattle.plan_reader.specs.PlanOf.{plan_of, stable_refusal};
+ghost use Rattle.plan_reader.specs.PlanOf.{AreWholeParts, parts_given, plan_of, stable_refusal};
 
 use crate::PlanRefusal;
 use crate::settings::read_settings;
 use atom_table::AtomTable;
 use hyper_model::{Line, Plan, PlanParts};
-use plan_text::{Record, records};
+use plan_text::{AddedKind, Record, records};
 use preference_rules::preferences;
 use std::alloc::Global;
 use travel_table::TravelTable;
@@ -40,14 +40,30 @@ fn plan_in(alloc: Global, records: &[Record]) -> Result<Plan, PlanRefusal>
     ensures plan { Gives PlanRefusal.NoMemory (λ plan. plan) result (spec.plan_in records.now) }
     ensures accepted { IfOk result (λ plan. IsAccepted plan) }
 {
-    let settings = read_settings(records)?;
+    let parts = read_parts(alloc, AddedKind::Group, records)?;
+    check_stable(parts.line, parts.atoms.calls(), parts.units.service())?;
+    Ok(Plan::of_accepted(parts))
+}
+
+/// The parts of a plan that the records of a text give, to which this kind of record can be added: all of the steps of
+/// [`read_plan`] after the records, but the last.
+#[tactic(auto, unfolding(crate::specs::PlanOf::parts_given))]
+pub fn read_parts(
+    alloc: Global,
+    added: AddedKind,
+    records: &[Record],
+) -> Result<PlanParts, PlanRefusal>
+    requires { IsInForm records.now }
+    ensures parts { Gives PlanRefusal.NoMemory (λ parts. parts) result (parts_given added records.now) }
+    ensures whole { IfOk result (λ parts. AreWholeParts parts) }
+{
+    let settings = read_settings(records, added)?;
     let names = AtomTable::of(alloc, records)?;
     let travel = TravelTable::of(alloc, &names, records)?;
     let located = Locations::of(alloc, &names, records)?;
     let lists = preferences(alloc, settings.rule, &names, &located, records)?;
-    check_stable(settings.line, &names)?;
     let (units, atoms) = names.into_parts();
-    let parts = PlanParts {
+    Ok(PlanParts {
         line: settings.line,
         rule: settings.rule,
         period: settings.period,
@@ -56,19 +72,16 @@ fn plan_in(alloc: Global, records: &[Record]) -> Result<Plan, PlanRefusal>
         lists,
         located: located.into_table(),
         travel: travel.into_table(),
-    };
-    Ok(Plan::of_accepted(parts))
+    })
 }
 
-/// Refuses calls that wait if the units cannot serve them all.
-fn check_stable(line: Line, names: &AtomTable) -> Result<(), PlanRefusal>
-    ensures { Refuses result (stable_refusal line names.now) }
+/// Refuses calls that wait if they are not fewer than can be served.
+pub fn check_stable(line: Line, calls: u64, service: u64) -> Result<(), PlanRefusal>
+    ensures { Refuses result (stable_refusal line calls service) }
 {
     match line {
         Line::Zero => Ok(()),
         Line::Infinite => {
-            let calls = names.atoms().calls();
-            let service = names.units().service();
             if calls < service {
                 Ok(())
             } else {

@@ -88,7 +88,7 @@ pub enum PlanRefusal {
     /// This record is for an atom whose list an earlier record gives.
     #[error("record {0} is for an atom whose list an earlier record gives")]
     ListTwice(u64),
-    /// This record is for a version that is neither 1 nor 2.
+    /// This record is for a version that is neither 1 nor 2, or in the text of a fleet neither 1 nor 3.
     #[error("record {0} is for an unknown version")]
     Version(u64),
     /// This record is for a setting that an earlier record has.

@@ -6,7 +6,7 @@ ghost use Rattle.plan_reader.specs.SettingValues.{value_refusal, with_setting};
 
 use crate::PlanRefusal;
 use hyper_model::{Line, Rule};
-use plan_text::Record;
+use plan_text::{AddedKind, Record};
 
 /// The settings of a plan.
 #[derive(Clone, Copy, Debug)]
@@ -30,9 +30,10 @@ pub(crate) struct Values {
 const HOUR: u32 = 3600;
 
 /// The settings of the records: without a record for one, calls do not wait, the records give the lists, and the period
-/// is an hour. A record for a setting that an earlier one has is refused, and a version that is neither 1 nor 2.
-pub(crate) fn read_settings(records: &[Record]) -> Result<Settings, PlanRefusal>
-    ensures { result ≡ settings_of records.now }
+/// is an hour. A record for a setting that an earlier one has is refused, and a version that is neither 1 nor that of the
+/// kind of record that can be added.
+pub(crate) fn read_settings(records: &[Record], added: AddedKind) -> Result<Settings, PlanRefusal>
+    ensures { result ≡ settings_of added records.now }
 {
     let mut values = Values {
         version: None,
@@ -41,7 +42,7 @@ pub(crate) fn read_settings(records: &[Record]) -> Result<Settings, PlanRefusal>
         period: None,
     };
     for item in records {
-        take_setting(&mut values, item)?;
+        take_setting(&mut values, item, added)?;
     }
     Ok(settings_of_values(&values))
 }
@@ -56,14 +57,14 @@ fn settings_of_values(values: &Values) -> Settings
     }
 }
 
-fn take_setting(values: &mut Values, item: &Record) -> Result<(), PlanRefusal>
-    ensures refusal { Refuses result (value_refusal values.old item.now) }
+fn take_setting(values: &mut Values, item: &Record, added: AddedKind) -> Result<(), PlanRefusal>
+    ensures refusal { Refuses result (value_refusal added values.old item.now) }
     ensures taken { OnOk result (values.new ≡ with_setting values.old item.now) }
 {
     match item {
         Record::Version { at, number } => {
             check_new(values.version.is_some(), *at)?;
-            if *number != 1 && *number != 2 {
+            if *number != 1 && *number != added.version() {
                 return Err(PlanRefusal::Version(u64::from(*at)));
             }
             values.version = Some(*number);
@@ -85,7 +86,8 @@ fn take_setting(values: &mut Values, item: &Record) -> Result<(), PlanRefusal>
         | Record::Travel { .. }
         | Record::Located { .. }
         | Record::Prefer { .. }
-        | Record::Group { .. } => {}
+        | Record::Group { .. }
+        | Record::Crews { .. } => {}
     }
     Ok(())
 }

@@ -7,3 +7,4 @@ pub mod Over
 pub mod RowsLeft
 pub mod RowByRow
 pub mod InForm
+pub mod NoGroups

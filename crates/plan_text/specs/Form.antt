@@ -4,6 +4,8 @@ use Rattle.hyper_model.specs.Name.{is_name}
 use Rattle.hyper_model.specs.Plans.{IsBetween}
 use Rattle.hyper_model.specs.declared.TheConstants.{MOST_UNITS}
 use Rattle.plan_text.specs.declared.TheConstants.{MOST_RECORDS}
+use Rattle.plan_text.specs.declared.kind.Kind.{Kind}
+use Rattle.plan_text.specs.declared.kind.Kind.TheVariants as kind
 use Rattle.plan_text.specs.declared.record.Record.{Record}
 use Rattle.plan_text.specs.declared.record.Record.TheVariants as rec
 
@@ -19,6 +21,21 @@ at_of (rec.Travel at origin target seconds) = at
 at_of (rec.Located at unit atom thousandths) = at
 at_of (rec.Prefer at atom units) = at
 at_of (rec.Group at atom units) = at
+at_of (rec.Crews at unit count) = at
+
+-- the kind of a record
+abbrev pub kind_in : Record → Kind
+kind_in (rec.Version at number) = kind.Version
+kind_in (rec.LineIs at line) = kind.Line
+kind_in (rec.RuleIs at rule) = kind.Rule
+kind_in (rec.Period at seconds) = kind.Period
+kind_in (rec.UnitIs at name rate) = kind.Unit
+kind_in (rec.AtomIs at name rate x y unit) = kind.Atom
+kind_in (rec.Travel at origin target seconds) = kind.Travel
+kind_in (rec.Located at unit atom thousandths) = kind.Located
+kind_in (rec.Prefer at atom units) = kind.Prefer
+kind_in (rec.Group at atom units) = kind.Group
+kind_in (rec.Crews at unit count) = kind.Crews
 
 abbrev pub IsName : List ℕ → Type 0
 IsName bytes = is_name bytes ≡ true
@@ -40,6 +57,7 @@ HasValues (rec.Travel at origin target seconds) = IsName origin × IsName target
 HasValues (rec.Located at unit atom thousandths) = IsName unit × IsName atom × IsBetween 1 1000 thousandths
 HasValues (rec.Prefer at atom units) = IsName atom × AreNames units
 HasValues (rec.Group at atom units) = IsName atom × AreNames units
+HasValues (rec.Crews at unit count) = IsName unit × IsBetween 1 200 count
 
 -- records with values in range, whose numbers rise
 pub record IsInForm (records : List Record) : Type 0 where

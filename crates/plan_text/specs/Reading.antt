@@ -1,12 +1,15 @@
 -- What a row says as a record, and what a text says as a list of records.
-use Rattle.std.specs.Prelude.{ℕ, zero, suc, ◌+◌, ◌-◌, Bool, if◌then◌else◌, nat_lt, List, [], ◌∷◌, ◌++◌, length, Option, Some, None, Result, Ok, Err}
+use Rattle.std.specs.Prelude.{ℕ, zero, suc, ◌+◌, ◌-◌, if◌then◌else◌, nat_lt, List, [], ◌∷◌, ◌++◌, length, Option, Some, None, Result, Ok, Err}
+use Rattle.std.specs.Bool.{then_some}
 use Rattle.std.specs.List.{list_any}
 use Rattle.std.specs.Option.{option_to_list}
 use Rattle.plan_text.specs.Fields.{field, line_at, name_at, number_at, rule_at}
-use Rattle.plan_text.specs.Kinds.{has_field_count, is_passed_over, is_version_two, kind_of}
+use Rattle.plan_text.specs.Kinds.{has_field_count, is_passed_over, added_version, kind_of, says_version}
 use Rattle.plan_text.specs.Rows.{Fields, rows_of}
 use Rattle.plan_text.specs.Steps.{◌>>=◌}
 use Rattle.plan_text.specs.declared.TheConstants.{MOST_RECORDS, MOST_TEXT_BYTES}
+use Rattle.plan_text.specs.declared.kind.AddedKind.{AddedKind}
+use Rattle.plan_text.specs.declared.kind.AddedKind.TheVariants as added
 use Rattle.plan_text.specs.declared.kind.Kind.{Kind}
 use Rattle.plan_text.specs.declared.kind.Kind.TheVariants as kind
 use Rattle.plan_text.specs.declared.record.Record.{Record}
@@ -83,6 +86,12 @@ group_of at row = do
   units ← names_at (length row - 2) at row 2
   Ok (rec.Group at atom units)
 
+unfoldable pub crews_of : ℕ → Fields → Result Record TextRefusal
+crews_of at row = do
+  unit ← name_at at row 1
+  count ← number_at 1 200 at row 2
+  Ok (rec.Crews at unit count)
+
 abbrev pub record_of : Kind → ℕ → Fields → Result Record TextRefusal
 record_of kind.Version = version_of
 record_of kind.Line = line_of
@@ -94,6 +103,7 @@ record_of kind.Travel = travel_of
 record_of kind.Located = located_of
 record_of kind.Prefer = prefer_of
 record_of kind.Group = group_of
+record_of kind.Crews = crews_of
 
 -- a row of this kind, if it is of one
 abbrev pub record_of_kind : Option Kind → ℕ → Fields → Result Record TextRefusal
@@ -101,24 +111,36 @@ record_of_kind None at row = Err (UnknownKind at)
 record_of_kind (Some k) at row = if has_field_count k (length row) then record_of k at row else Err (FieldCount at)
 
 -- the record, if there is one, that a row with this number says
-unfoldable pub reading_of : ℕ → Bool → Fields → Result (Option Record) TextRefusal
-reading_of number groups row =
+unfoldable pub reading_of : ℕ → Option AddedKind → Fields → Result (Option Record) TextRefusal
+reading_of number more row =
     if nat_lt MOST_RECORDS number then Err (TooManyRecords number)
     else if is_passed_over row then Ok None
-    else (record_of_kind (kind_of groups (field row 0)) number row >>= λ found. Ok (Some found))
+    else (record_of_kind (kind_of more (field row 0)) number row >>= λ found. Ok (Some found))
 
--- the same of a row that stands after others, which number it and say whether groups are a kind
-abbrev pub row_reading : List Fields → Fields → Result (Option Record) TextRefusal
-row_reading before row = reading_of (length before + 1) (list_any is_version_two before) row
+-- a kind that can be added is, after a row that says its version
+abbrev pub added_after : AddedKind → List Fields → Option AddedKind
+added_after more before = then_some (list_any (says_version (added_version more)) before) more
+
+-- what a row says that stands after others, which number it
+abbrev pub row_reading : AddedKind → List Fields → Fields → Result (Option Record) TextRefusal
+row_reading more before row = reading_of (length before + 1) (added_after more before) row
 
 -- the records that rows say, after others
-unfoldable pub records_after : List Fields → List Fields → Result (List Record) TextRefusal
-records_after before [] = Ok []
-records_after before (row ∷ rows) = do
-  read ← row_reading before row
-  others ← records_after (before ++ row ∷ []) rows
+unfoldable pub records_after : AddedKind → List Fields → List Fields → Result (List Record) TextRefusal
+records_after more before [] = Ok []
+records_after more before (row ∷ rows) = do
+  read ← row_reading more before row
+  others ← records_after more (before ++ row ∷ []) rows
   Ok (option_to_list read ++ others)
 
--- the records of a text
-unfoldable pub records_of : List ℕ → Result (List Record) TextRefusal
-records_of bytes = if nat_lt MOST_TEXT_BYTES (length bytes) then Err (TooLong (length bytes)) else records_after [] (rows_of bytes)
+-- the records of a text to which this kind can be added
+unfoldable pub records_with : AddedKind → List ℕ → Result (List Record) TextRefusal
+records_with more bytes =
+    if nat_lt MOST_TEXT_BYTES (length bytes) then Err (TooLong (length bytes)) else records_after more [] (rows_of bytes)
+
+-- the records of a plan's text, and of a fleet's
+abbrev pub records_of : List ℕ → Result (List Record) TextRefusal
+records_of bytes = records_with added.Group bytes
+
+abbrev pub fleet_records_of : List ℕ → Result (List Record) TextRefusal
+fleet_records_of bytes = records_with added.Crews bytes

@@ -1,12 +1,33 @@
 ghost use Rattle.std.specs.Prelude.{◌≡◌, ◌≤◌, IsTrue};
 ghost use Rattle.plan_text.specs.Kinds as spec;
-ghost use Rattle.plan_text.specs.Kinds.{has_field_count, is_passed_over, is_version_two, shape_of};
+ghost use Rattle.plan_text.specs.Kinds.{has_field_count, is_passed_over, says_version, shape_of};
 
 use crate::{Row, number_at};
 use hyper_model::MOST_UNITS;
 
 /// The most fields that a record has: a keyword, an atom and as many units as there can be.
 pub(crate) const MOST_FIELDS: usize = MOST_UNITS + 2;
+
+/// A kind of record that a text can have beside those of version 1: after a record for the version in which it came.
+#[derive(Clone, Copy, Debug, PartialEq, Eq)]
+pub enum AddedKind {
+    /// A group of a preference list, in plans of version 2.
+    Group,
+    /// The crews of a station, in fleets, which are of version 3.
+    Crews,
+}
+
+impl AddedKind {
+    /// The version in which the kind came.
+    pub fn version(self) -> u32
+        ensures { result ≡ spec.added_version self }
+    {
+        match self {
+            AddedKind::Group => 2,
+            AddedKind::Crews => 3,
+        }
+    }
+}
 
 /// What a record is about, as its first field says.
 #[derive(Clone, Copy, Debug, PartialEq, Eq)]
@@ -21,11 +42,12 @@ pub(crate) enum Kind {
     Located,
     Prefer,
     Group,
+    Crews,
 }
 
-/// The kind that a first field names. Groups are a kind only if they are asked for.
-pub(crate) fn kind_of(keyword: &[u8], groups: bool) -> Option<Kind>
-    ensures { result ≡ spec.kind_of groups keyword.now }
+/// The kind that a first field names: one of version 1, or the one that is added.
+pub(crate) fn kind_of(keyword: &[u8], added: Option<AddedKind>) -> Option<Kind>
+    ensures { result ≡ spec.kind_of added keyword.now }
 {
     if keyword == b"version".as_slice() {
         Some(Kind::Version)
@@ -45,10 +67,18 @@ pub(crate) fn kind_of(keyword: &[u8], groups: bool) -> Option<Kind>
         Some(Kind::Located)
     } else if keyword == b"prefer".as_slice() {
         Some(Kind::Prefer)
-    } else if groups && keyword == b"group".as_slice() {
-        Some(Kind::Group)
     } else {
-        None
+        added_kind_of(keyword, added)
+    }
+}
+
+fn added_kind_of(keyword: &[u8], added: Option<AddedKind>) -> Option<Kind>
+    ensures { result ≡ spec.added_kind_of added keyword.now }
+{
+    match added {
+        Some(AddedKind::Group) if keyword == b"group".as_slice() => Some(Kind::Group),
+        Some(AddedKind::Crews) if keyword == b"crews".as_slice() => Some(Kind::Crews),
+        _ => None,
     }
 }
 
@@ -60,7 +90,7 @@ fn field_counts(kind: Kind) -> (usize, usize)
 {
     match kind {
         Kind::Version | Kind::Line | Kind::Rule | Kind::Period => (2, 2),
-        Kind::Unit => (3, 3),
+        Kind::Unit | Kind::Crews => (3, 3),
         Kind::Atom => (6, 6),
         Kind::Travel | Kind::Located => (4, 4),
         Kind::Prefer | Kind::Group => (3, MOST_FIELDS),
@@ -83,9 +113,9 @@ pub fn is_skipped(row: &Row<'_>) -> bool
     row.is_empty() || row.field(0) == b"note".as_slice()
 }
 
-/// Whether a row says that the text is of version 2.
-pub(crate) fn says_version_two(row: &Row<'_>) -> bool
-    ensures { result ≡ is_version_two row.now }
+/// Whether a row says that the text is of this version.
+pub(crate) fn is_version(row: &Row<'_>, version: u32) -> bool
+    ensures { result ≡ says_version version row.now }
 {
-    row.field(0) == b"version".as_slice() && number_at(row, 0, 1, 2, 2).is_ok()
+    row.field(0) == b"version".as_slice() && number_at(row, 0, 1, version, version).is_ok()
 }

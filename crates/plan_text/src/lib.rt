@@ -1,4 +1,4 @@
-//! The text of a plan as rows of fields and as typed records.
+//! The text of a plan or of a fleet as rows of fields and as typed records.
 #![tactic(auto)]
 
 mod cleaning;
@@ -11,10 +11,10 @@ mod refusal;
 mod row_list;
 
 pub use field::{line_at, name_at, number_at, rule_at, text_at};
-pub use kind::is_skipped;
+pub use kind::{AddedKind, is_skipped};
 pub use reading::read_row;
 pub use record::Record;
-pub use record_list::{law_first_refusal, records};
+pub use record_list::{fleet_records, law_first_refusal, records};
 pub use refusal::TextRefusal;
 pub use row_list::{Row, RowList, row_reader, rows};
 

@@ -4,11 +4,13 @@ ghost use Rattle.plan_text.specs.Reading.{names_at, reading_of};
 ghost use Rattle.plan_text.specs.Steps.{Gives};
 
 use crate::kind::{Kind, MOST_FIELDS, is_skipped, kind_of, may_have};
-use crate::{MOST_RECORDS, Record, Row, TextRefusal, line_at, name_at, number_at, rule_at};
+use crate::{
+    AddedKind, MOST_RECORDS, Record, Row, TextRefusal, line_at, name_at, number_at, rule_at,
+};
 use hyper_model::{MOST_UNITS, Names};
 use std::alloc::Global;
 
-/// The record, if there is one, that a row with this number says. `groups` says whether groups are a kind of record.
+/// The record, if there is one, that a row with this number says. Its kind is one of version 1, or the one that is `added`.
 ///
 /// A row with no field, or whose first field is `note`, gives none. A number beyond [`MOST_RECORDS`] is refused before
 /// the row is looked at; then an unknown kind is refused, then a wrong number of fields, then the fields from left to right.
@@ -17,9 +19,9 @@ pub fn read_row(
     alloc: Global,
     row: &Row<'_>,
     number: u32,
-    groups: bool,
+    added: Option<AddedKind>,
 ) -> Result<Option<Record>, TextRefusal>
-    ensures reading { Gives TextRefusal.NoMemory (λ read. read) result (reading_of number groups row.now) }
+    ensures reading { Gives TextRefusal.NoMemory (λ read. read) result (reading_of number added row.now) }
     ensures few { IfOk result (λ _. number ≤ MOST_RECORDS) }
 {
     if number > MOST_RECORDS {
@@ -28,7 +30,7 @@ pub fn read_row(
     if is_skipped(row) {
         return Ok(None);
     }
-    let Some(kind) = kind_of(row.field(0), groups) else {
+    let Some(kind) = kind_of(row.field(0), added) else {
         return Err(TextRefusal::UnknownKind(u64::from(number)))
     };
     if !may_have(kind, row.len()) {
@@ -53,6 +55,7 @@ fn record_of(alloc: Global, row: &Row<'_>, at: u32, kind: Kind) -> Result<Record
         Kind::Located => located_of(alloc, row, at),
         Kind::Prefer => prefer_of(alloc, row, at),
         Kind::Group => group_of(alloc, row, at),
+        Kind::Crews => crews_of(alloc, row, at),
     }
 }
 
@@ -164,6 +167,15 @@ fn group_of(alloc: Global, row: &Row<'_>, at: u32) -> Result<Record, TextRefusal
     let atom = name_at(alloc, row, at, 1)?;
     let units = names_of(alloc, row, at)?;
     Ok(Record::Group { at, atom, units })
+}
+
+#[tactic(auto, unfolding(crate::specs::Reading::crews_of))]
+fn crews_of(alloc: Global, row: &Row<'_>, at: u32) -> Result<Record, TextRefusal>
+    ensures { Gives TextRefusal.NoMemory (λ read. read) result (spec.crews_of at row.now) }
+{
+    let unit = name_at(alloc, row, at, 1)?;
+    let count = number_at(row, at, 2, 1, 200)?;
+    Ok(Record::Crews { at, unit, count })
 }
 
 // The names after the kind and the atom.

@@ -1,6 +1,6 @@
 use hyper_model::{Line, Name, Names, Rule};
 
-/// A record of a plan's text.
+/// A record of the text of a plan or of a fleet.
 ///
 /// In each, `at` is the record's number, counted from 1 over all records of the text.
 #[derive(Debug, Drop)]
@@ -65,5 +65,11 @@ pub enum Record {
         at: u32,
         atom: Name,
         units: Names,
+    },
+    /// How many crews a station has, 1 to 200.
+    Crews {
+        at: u32,
+        unit: Name,
+        count: u32,
     },
 }

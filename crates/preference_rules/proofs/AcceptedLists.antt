@@ -34,7 +34,7 @@ second_none : {E : Type 0} (a b : Option E) → option_or a b ≡ None → b ≡
 second_none None b h = h
 second_none (Some e) b h = absurd (cc)
 
-given_ok : (units atoms : List (List ℕ)) (records : List Record) (lists : GroupLists) → given_lists_of units atoms records ≡ Ok lists
+pub given_ok : (units atoms : List (List ℕ)) (records : List Record) (lists : GroupLists) → given_lists_of units atoms records ≡ Ok lists
     → (drafts_refusal (length units) (drafts_of units atoms records) ≡ None) × (lists ≡ given_lists units atoms records)
 unfolding given_lists_of
 given_ok units atoms records lists h =
@@ -52,7 +52,7 @@ given_grouped units atoms records j some none lt =
     subst P (sym row) (grouped_from (length units) (row_of_groups (given_groups units atoms records j)).members
     (drop 1 (row_of_groups (given_groups units atoms records j)).begins) (passed_full units atoms records some none j lt))
 
-centred_ok : (rule : Rule) (entries : Entries) (located : Grid) (records : List Record) (lists : GroupLists)
+pub centred_ok : (rule : Rule) (entries : Entries) (located : Grid) (records : List Record) (lists : GroupLists)
     → centred_lists_of rule entries located records ≡ Ok lists → lists ≡ centred_lists rule (length entries.units) entries.atoms located
 unfolding centred_lists_of
 centred_ok rule entries located records lists h =

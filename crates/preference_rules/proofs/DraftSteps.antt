@@ -181,6 +181,8 @@ drafts_of-push units atoms before (rec.Travel at origin target seconds) some =
     passed_over units atoms before (rec.Travel at origin target seconds) (λ j. refl) (λ j. refl) (λ j. refl)
 drafts_of-push units atoms before (rec.Located at unit atom thousandths) some =
     passed_over units atoms before (rec.Located at unit atom thousandths) (λ j. refl) (λ j. refl) (λ j. refl)
+drafts_of-push units atoms before (rec.Crews at unit count) some =
+    passed_over units atoms before (rec.Crews at unit count) (λ j. refl) (λ j. refl) (λ j. refl)
 
 -- a record is refused by the records before it as by what they gave
 pub again_refusal-drafts_of : (units atoms : List (List ℕ)) (before : List Record) (r : Record) → 0 < length atoms
@@ -197,6 +199,7 @@ again_refusal-drafts_of units atoms before (rec.UnitIs at name rate) some = refl
 again_refusal-drafts_of units atoms before (rec.AtomIs at name rate x y unit) some = refl
 again_refusal-drafts_of units atoms before (rec.Travel at origin target seconds) some = refl
 again_refusal-drafts_of units atoms before (rec.Located at unit atom thousandths) some = refl
+again_refusal-drafts_of units atoms before (rec.Crews at unit count) some = refl
 
 -- the units of the first names, with one name more
 pub places_of-more : (units names : List (List ℕ)) (place : ℕ) (name : List ℕ) → slice_get names place ≡ Some name

@@ -91,6 +91,7 @@ group_within units atoms j (rec.UnitIs at name rate) some = All-nil (λ unit. un
 group_within units atoms j (rec.AtomIs at name rate x y unit) some = All-nil (λ unit. unit < length units)
 group_within units atoms j (rec.Travel at origin target seconds) some = All-nil (λ unit. unit < length units)
 group_within units atoms j (rec.Located at unit atom thousandths) some = All-nil (λ unit. unit < length units)
+group_within units atoms j (rec.Crews at unit count) some = All-nil (λ unit. unit < length units)
 
 pub given_within : (units atoms : List (List ℕ)) (j : ℕ) (records : List Record) → 0 < length units
     → All (λ unit. unit < length units) (row_of_groups (given_groups units atoms records j)).members

@@ -7,3 +7,4 @@ pub mod DraftSteps
 pub mod FullLists
 pub mod GivenRows
 pub mod AcceptedLists
+pub mod SingleLists

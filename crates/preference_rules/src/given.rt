@@ -80,7 +80,8 @@ fn take_record(names: &AtomTable, item: &Record, drafts: &mut Vec<Draft>) -> Res
         | Record::UnitIs { .. }
         | Record::AtomIs { .. }
         | Record::Travel { .. }
-        | Record::Located { .. } => Ok(()),
+        | Record::Located { .. }
+        | Record::Crews { .. } => Ok(()),
     }
 }
 

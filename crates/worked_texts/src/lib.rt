@@ -1,8 +1,10 @@
-//! Texts of plans: what the crates that read them find, step by step, and why they refuse. Tests alone.
+//! Texts of plans and fleets: what the crates that read them find, step by step, and why they refuse. Tests alone.
 #![tactic(auto)]
 
 #[cfg(test)]
 mod accepted;
+#[cfg(test)]
+mod fleets;
 #[cfg(test)]
 mod large;
 #[cfg(test)]

@@ -7,5 +7,5 @@ use Rattle.plan_reader.proofs.settings.read_settings.Given as goal
 abbrev pub invariant-loop-item : goal.invariant-loop-item
 invariant-loop-item l = record {
   values : l.values ≡ values_in (take l.item-index l.records);
-  so_far : first_over setting_refusal (take l.item-index l.records) (drop l.item-index l.records) ≡ settings_refusal l.records;
+  so_far : first_over (setting_refusal l.added) (take l.item-index l.records) (drop l.item-index l.records) ≡ settings_refusal l.added l.records;
 }

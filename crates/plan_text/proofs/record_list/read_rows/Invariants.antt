@@ -1,6 +1,6 @@
 use Rattle.std.proofs.Common.{◌≡◌, ◌≤◌, ◌-◌, [], take, drop}
 use Rattle.std.specs.List.{list_any}
-use Rattle.plan_text.specs.Kinds.{is_version_two}
+use Rattle.plan_text.specs.Kinds.{says_version, added_version}
 use Rattle.plan_text.specs.Reading.{records_after}
 use Rattle.plan_text.specs.Rows.{rows_of}
 use Rattle.plan_text.specs.declared.TheConstants.{MOST_RECORDS}
@@ -12,9 +12,9 @@ abbrev pub invariant-rows : goal.invariant-rows
 invariant-rows l = record {
   few : l.number ≤ MOST_RECORDS;
   left : GivesRows l.reader (drop l.number (rows_of l.bytes));
-  groups : l.groups ≡ list_any is_version_two (take l.number (rows_of l.bytes));
-  read : with_front l.found.items (records_after (take l.number (rows_of l.bytes)) (drop l.number (rows_of l.bytes)))
-      ≡ records_after [] (rows_of l.bytes);
+  added : l.is_added ≡ list_any (says_version (added_version l.added)) (take l.number (rows_of l.bytes));
+  read : with_front l.found.items (records_after l.added (take l.number (rows_of l.bytes)) (drop l.number (rows_of l.bytes)))
+      ≡ records_after l.added [] (rows_of l.bytes);
 }
 
 abbrev pub decreases-rows : goal.decreases-rows

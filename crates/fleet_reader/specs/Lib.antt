@@ -1,0 +1,4 @@
+pub mod Refusals
+pub mod Crews
+pub mod Limits
+pub mod FleetOf
