@@ -1,7 +1,7 @@
 """Runs the built program on each case of cases.py, and compares its status and what it says: python3 scripts/messages PROGRAM
 
-Each number by which a refusal is reported has to have a case, and so has each command and option of the help. Nothing that is
-said, or cannot be said, may change the status or a byte of standard output.
+Each number by which the program can report a refusal has to have a case, and so has each command and option of the help.
+Nothing that is said, or cannot be said, may change the status or a byte of standard output.
 """
 import difflib
 import os
@@ -14,6 +14,9 @@ import tempfile
 from cases import CASES, HELP, PLAN, UNWRITTEN, VERSION, changed
 
 TOP = pathlib.Path(__file__).resolve().parent.parent.parent
+sys.path.append(str(TOP / "scripts"))
+
+from program import PROGRAM, graph_below
 SECONDS = 60
 IS_SAID = re.compile(r"hypercube: town\.csv[,:] ")
 
@@ -41,10 +44,11 @@ def wrong_cases(program, cases):
 
 
 def cases_missing(cases):
-    """Numbers, commands and options without a case."""
+    """Numbers, commands and options without a case. Only crates that the program stands on can refuse what it is given."""
     said = "\n".join(case.said for case in cases)
     have = set(map(int, re.findall(r"\(refusal (\d+)\)", said)))
-    sources = "\n".join(path.read_text() for path in sorted((TOP / "crates").glob("*/src/*.rt")))
+    crates = [TOP / "crates" / name for name in sorted(graph_below(PROGRAM))]
+    sources = "\n".join(path.read_text() for crate in crates for path in sorted(crate.glob("src/*.rt")))
     numbers = set(map(int, re.findall(r"RefusalCode::(?:plain|of_one|of_two)\((\d+)", sources))) - {0}
     yield from (f"refusal {number} has no case" for number in sorted(numbers - have))
     words = {str(word).split("=")[0] for case in cases for word in case.words}
