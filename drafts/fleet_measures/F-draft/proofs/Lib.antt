@@ -1,9 +1,0 @@
--- lemmas, each file on one subject
-pub mod Pooling
-pub mod Gathering
-pub mod PooledMeasures
-pub mod Workloads
-pub mod Contain
-pub mod CrewWeights
-pub mod WordSums
-pub mod FleetLists

@@ -1,8 +1,0 @@
-use Rattle.std.proofs.Common.{◌≡◌, ◌++◌, map}
-use Rattle.std.specs.List.{range_with_len}
-use Rattle.fleet_measures.specs.FleetEnclosures.{full_of}
-use Rattle.fleet_measures.proofs.listing.push_full.Given as goal
-
-abbrev pub invariant-loop-k : goal.invariant-loop-k
-invariant-loop-k l =
-    l.found.items ≡ l.initial.found.items ++ map (full_of l.plan l.order l.gathered.items) (range_with_len 0 l.k)
