@@ -15,7 +15,7 @@ mod weights;
 mod wide;
 
 pub use iv::Iv;
-pub use weights::{Weights, WeightsUpTo};
+pub use weights::{Weights, WeightsUpTo, least_shift};
 pub use wide::Wide;
 
 /// The most weights of a list: one for each of `2^12` states, and one more.

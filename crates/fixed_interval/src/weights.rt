@@ -59,6 +59,16 @@ impl<const MOST: usize> WeightsUpTo<MOST> {
         self.items.push_reserved(w.shifted(power).narrow());
     }
 
+    /// Puts `w` at the end, if its high end is at most `2^52`: no weight is shifted.
+    pub fn push(&mut self, w: Wide)
+        requires room { 1 ≤ self.old.spare }
+        requires in_range { w.hi ≤ 2 ^ 52 }
+        ensures items { self.new.items ≡ self.old.items ++ w ∷ [] }
+        ensures spare { self.new.spare + 1 ≡ self.old.spare }
+    {
+        self.items.push_reserved(w.narrow());
+    }
+
     /// How many weights there are.
     pub fn len(&self) -> usize
         ensures count { result ≡ length self.now.items }
@@ -78,7 +88,8 @@ impl<const MOST: usize> WeightsUpTo<MOST> {
     }
 }
 
-fn least_shift(high: u128) -> u32
+/// The least power of two by which a high end is divided, and rounded up, to be at most `2^52`.
+pub fn least_shift(high: u128) -> u32
     requires { high < 2 ^ 100 }
     ensures least { IsLeastShift high result }
     ensures in_range { result ≤ 48 }
