@@ -1,5 +1,5 @@
 -- The words in which no crew of a station is free are the states in which the station has no room.
-use Rattle.std.proofs.Common.{◌≡◌, ℕ, ◌+◌, ◌*◌, ◌<◌, Bool, true, false, not, ◌||◌, cond, eqb, eqb-true, eq-eqb, true≢false, refl, sym, ap, ◌∙◌, arith}
+use Rattle.std.proofs.Common.{◌≡◌, ℕ, ◌+◌, ◌<◌, Bool, true, false, not, ◌||◌, cond, eqb, eqb-true, eq-eqb, true≢false, refl, sym, ap, ◌∙◌, arith}
 use Rattle.std.proofs.lemmas.Bool.{or_parts, eqb-false}
 use Rattle.hyper_model.specs.declared.parts.PlanParts.{PlanParts}
 use Rattle.hyper_model.specs.Plans.{units}
@@ -7,14 +7,15 @@ use Rattle.hyper_model.specs.Solutions.{mass_in}
 use Rattle.hyper_model.specs.Sums.{sum_below}
 use Rattle.hyper_model.specs.Words.{words, is_busy}
 use Rattle.hyper_model.proofs.Sums.{on_test, sum-same, place_le_sum, positive_place}
-use Rattle.crew_stations.specs.CrewMeasures.{is_exhausted}
+use Rattle.crew_stations.specs.CrewMeasures.{is_exhausted, exhausted_share}
 use Rattle.crew_stations.specs.Laws.{HoldsAtStations, SharesAreOfStates}
 use Rattle.crew_stations.specs.Standing.{IsStationed, state_of, state_mass}
-use Rattle.crew_stations.specs.StateMeasures.{total, exhausted}
+use Rattle.crew_stations.specs.StateMeasures.{full_share}
 use Rattle.crew_stations.specs.Stations.{StationPlan, stations, states, has_room}
 use Rattle.crew_stations.proofs.Lumping.{sum_of_classes}
 use Rattle.crew_stations.proofs.Counting.{state_inside, room_if_free, no_room_if_busy}
 use Rattle.crew_stations.proofs.Parts.{same_mass}
+use Rattle.crew_stations.proofs.Ratios.{by_parts}
 
 -- either all of the first n pass a test, or one does not
 passes : (n : ℕ) (test : ℕ → Bool) → sum_below n (λ k. cond (test k) 0 1) ≡ 0 → (k : ℕ) → k < n → test k ≡ true
@@ -72,6 +73,5 @@ module _ (p : PlanParts) (s : StationPlan) (station : ℕ → ℕ) (t : IsStatio
 
 pub shares_are_of_states : HoldsAtStations SharesAreOfStates
 shares_are_of_states most p s station a t xs z e k l =
-    ap (λ c. (c + z) * total s (state_mass p s station (mass_in xs)) z) (exhausted_mass p s station t (mass_in xs) z k l)
-    ∙ ap (λ c. exhausted s (state_mass p s station (mass_in xs)) z k * c)
-    (sym (same_mass p s station t (mass_in xs) z))
+    by_parts (exhausted_share p station (mass_in xs) z k) (full_share s (state_mass p s station (mass_in xs)) z k)
+    (ap (λ c. c + z) (exhausted_mass p s station t (mass_in xs) z k l)) (same_mass p s station t (mass_in xs) z)

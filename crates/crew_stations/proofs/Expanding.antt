@@ -52,7 +52,7 @@ module _ (rows cols : ℕ) (value : ℕ → ℕ → ℕ) where
       ∙ ap (λ i. value r i) (col_is r c h)
 
 module _ {most : ℕ} (s : StationPlan) (a : IsAcceptedFleet most s) where
-  units_are : units (expanded s) ≡ all_crews s
+  pub units_are : units (expanded s) ≡ all_crews s
   units_are = length-map-range_with_len (crew s) 0 (all_crews s)
 
   atoms_are : atoms (expanded s) ≡ atoms s.parts

@@ -28,7 +28,7 @@ by_factor : (g : ℕ) (r s : Ratio) → 0 < g → r.numerator ≡ g * s.numerato
     → IsMultiple r s
 by_factor g r s pos top bottom = record { factor = g; positive = pos; above = top; below = bottom }
 
-by_parts : (r s : Ratio) → r.numerator ≡ s.numerator → r.denominator ≡ s.denominator → IsMultiple r s
+pub by_parts : (r s : Ratio) → r.numerator ≡ s.numerator → r.denominator ≡ s.denominator → IsMultiple r s
 by_parts r s top bottom =
     record { factor = 1; positive = omega arith; above = omega (arith, top); below = omega (arith, bottom) }
 
@@ -345,7 +345,7 @@ same_measure p s station t a x z m r =
     (multiple_of p s station t a x z m r)
 
 pub measures_are_of_states : HoldsAtStations MeasuresAreOfStates
-measures_are_of_states most p s station a t xs z e m r = same_measure p s station t a (mass_in xs) z m r
+measures_are_of_states most p s station a t xs z e m r = multiple_of p s station t a (mass_in xs) z m r
 
 -- ends of a ratio are ends of its multiples
 multiple_contained : (lo hi scale : ℕ) (r q : Ratio) → IsMultiple r q → ContainsRatio lo hi scale q

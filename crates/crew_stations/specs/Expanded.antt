@@ -1,6 +1,7 @@
 -- The plan with a unit for each crew, in the order of the stations.
 use Rattle.std.specs.Prelude.{ℕ, zero, suc, ◌*◌, ◌/◌, ◌%◌, nat_le, true, false, Bool, if◌then◌else◌, List, [], ◌∷◌, ◌++◌, map}
 use Rattle.std.specs.List.{range_with_len}
+use Rattle.hyper_model.specs.declared.kinds.Rule.TheVariants as rule
 use Rattle.hyper_model.specs.declared.parts.Atom.{Atom}
 use Rattle.hyper_model.specs.declared.parts.PlanParts.{PlanParts}
 use Rattle.hyper_model.specs.declared.parts.Unit as declared_unit
@@ -72,11 +73,11 @@ grid_of rows cols value = record {
 abbrev pub crew_places : StationPlan → Grid
 crew_places s = grid_of (all_crews s) s.parts.located.cols (λ n k. located s.parts (station_of s n) k)
 
--- the plan with a unit for each crew
+-- the plan with a unit for each crew, whose lists are given: of each atom the groups of its stations' crews
 abbrev pub expanded : StationPlan → PlanParts
 expanded s = record {
   line = s.parts.line;
-  rule = s.parts.rule;
+  rule = rule.Given;
   period = s.parts.period;
   units = map (crew s) (range_with_len 0 (all_crews s));
   atoms = map (crew_atom s) s.parts.atoms;

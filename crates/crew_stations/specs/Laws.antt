@@ -8,7 +8,7 @@ use Rattle.hyper_model.specs.Measures.{Ratio, ContainsRatio, scale_of, measure_o
 use Rattle.hyper_model.specs.Plans.{units, atoms, IsAcceptedUpTo}
 use Rattle.hyper_model.specs.Solutions.{mass_in, IsSolution}
 use Rattle.hyper_model.specs.Words.{words}
-use Rattle.crew_stations.specs.CrewMeasures.{crew_measure, exhausted_share}
+use Rattle.crew_stations.specs.CrewMeasures.{IsMultiple, crew_measure, exhausted_share}
 use Rattle.crew_stations.specs.Standing.{IsStationed, state_of, state_mass, exchanged_word}
 use Rattle.crew_stations.specs.StateMeasures.{state_measure, full_share, crew_dispatch}
 use Rattle.crew_stations.specs.Stations.{StationPlan, stations, SolvesStates}
@@ -24,17 +24,17 @@ HoldsAtStations law =
 abbrev pub StatesBalance : PlanParts → StationPlan → (ℕ → ℕ) → (ℕ → ℕ) → ℕ → Type 0
 StatesBalance p s station x z = SolvesStates s (state_mass p s station x) z
 
--- each measure of the crews of a station is that of the masses of the states
+-- each measure of the crews of a station is that of the masses of the states, times one number above and below
 abbrev pub MeasuresAreOfStates : PlanParts → StationPlan → (ℕ → ℕ) → (ℕ → ℕ) → ℕ → Type 0
 MeasuresAreOfStates p s station x z =
     (m : Measure) → IsInRange s.parts m
-    → IsSameRatio (crew_measure p station x z m) (state_measure s (state_mass p s station x) z m)
+    → IsMultiple (crew_measure p station x z m) (state_measure s (state_mass p s station x) z m)
 
 -- and so is the share of time in which no crew of a station is free
 abbrev pub SharesAreOfStates : PlanParts → StationPlan → (ℕ → ℕ) → (ℕ → ℕ) → ℕ → Type 0
 SharesAreOfStates p s station x z =
     (k : ℕ) → k < stations s
-    → IsSameRatio (exhausted_share p station x z k) (full_share s (state_mass p s station x) z k)
+    → IsMultiple (exhausted_share p station x z k) (full_share s (state_mass p s station x) z k)
 
 -- crews of one station can be exchanged: the words that become each other have equal masses
 abbrev pub CrewsAreAlike : PlanParts → StationPlan → (ℕ → ℕ) → (ℕ → ℕ) → ℕ → Type 0

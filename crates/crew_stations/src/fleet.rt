@@ -103,6 +103,7 @@ impl Fleet {
     /// The rate of all calls per period, 1 to 1,000,000.
     pub fn calls(&self) -> u32
         ensures calls { result ≡ all_calls self.now.parts }
+        ensures least { 1 ≤ result }
         ensures most { result ≤ MOST_RATE }
     {
         self.parts.atoms.calls() as u32
@@ -111,6 +112,7 @@ impl Fleet {
     /// The rate at which all crews together serve, per period, 1 to 1,000,000.
     pub fn service(&self) -> u32
         ensures service { result ≡ fleet_service self.now }
+        ensures least { 1 ≤ result }
         ensures most { result ≤ MOST_RATE }
     {
         law_fleet(self);

@@ -44,7 +44,7 @@ use Rattle.crew_stations.proofs.Exhausted.{shares_are_of_states}
 use Rattle.crew_stations.proofs.Expanding.{accepted, of_crews, stationed}
 use Rattle.crew_stations.proofs.Parts.{same_calls, full_mass as full_word_mass}
 use Rattle.crew_stations.proofs.Positive.{positive_states, second_positive}
-use Rattle.crew_stations.proofs.Ratios.{measures_are_of_states, spare_service}
+use Rattle.crew_stations.proofs.Ratios.{measures_are_of_states, same_of_multiple, spare_service}
 use Rattle.fleet_measures.specs.declared.kinds.FleetMeasure.TheVariants as fleet
 use Rattle.fleet_measures.specs.declared.kinds.FleetEnds.{FleetEnds}
 use Rattle.fleet_measures.specs.FleetEnclosures.{AreFleetMeasures, answers_from, crew_workload_of, full_of, of_station}
@@ -204,7 +204,8 @@ module _ (s : StationPlan) (f : IsFleet s) (items : List Ends) (list : List Flee
         pools.contains_same lo hi (scale_of measure) (crew_measure (expanded s) (station_of s) (mass_in xs) z measure)
             (state_measure s y z measure) (measure_of p (mass_in (pooled_masses s y)) z measure)
             (positive_states _ s f.accepted xs z solves measure within valued)
-            (of_crews MeasuresAreOfStates measures_are_of_states _ s f.accepted xs z solves measure within)
+            (same_of_multiple (crew_measure (expanded s) (station_of s) (mass_in xs) z measure) (state_measure s y z measure)
+            (of_crews MeasuresAreOfStates measures_are_of_states _ s f.accepted xs z solves measure within))
             (pools.same_parts s f y z measure within n) h.1,
       )
   found_there measure found.Without h r n = sym (silent_as s (subject_of measure)) ∙ h
@@ -222,7 +223,9 @@ module _ (s : StationPlan) (f : IsFleet s) (items : List Ends) (list : List Flee
     pools.contains_same _ _ 1000000 (crew_measure (expanded s) (station_of s) (mass_in xs) z (measure.Workload k))
         (state_measure s y z (measure.Workload k)) (state_measure s y z (measure.Workload k))
         (positive_states _ s f.accepted xs z solves (measure.Workload k) l refl)
-        (of_crews MeasuresAreOfStates measures_are_of_states _ s f.accepted xs z solves (measure.Workload k) l)
+        (same_of_multiple (crew_measure (expanded s) (station_of s) (mass_in xs) z (measure.Workload k))
+        (state_measure s y z (measure.Workload k))
+        (of_crews MeasuresAreOfStates measures_are_of_states _ s f.accepted xs z solves (measure.Workload k) l))
         (refl, refl)
         (contains_ratio _ 1000000 _ _ (state_measure s y z (measure.Workload k)) refl refl
         (workload_held s y z idle items same_length
@@ -240,7 +243,8 @@ module _ (s : StationPlan) (f : IsFleet s) (items : List Ends) (list : List Flee
         pools.contains_same _ _ 1000000 (exhausted_share (expanded s) (station_of s) (mass_in xs) z k)
             (full_share s y z k) (measure_of p (mass_in (pooled_masses s y)) z (measure.Workload k))
             whole_there
-            (of_crews SharesAreOfStates shares_are_of_states _ s f.accepted xs z solves k l)
+            (same_of_multiple (exhausted_share (expanded s) (station_of s) (mass_in xs) z k) (full_share s y z k)
+            (of_crews SharesAreOfStates shares_are_of_states _ s f.accepted xs z solves k l))
             (pools.full_is s f y z k l, pools.mass_is s f y z) inside.1,
       )
 

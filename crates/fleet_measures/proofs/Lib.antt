@@ -5,3 +5,4 @@ pub mod PooledMeasures
 pub mod Workloads
 pub mod Contain
 pub mod CrewWeights
+mod EachCrew

@@ -1,4 +1,4 @@
-use Rattle.std.proofs.Common.{◌≡◌, ◌<◌, ◌≤◌, sym, subst, arith}
+use Rattle.std.proofs.Common.{◌≡◌, ◌<◌, sym, subst, arith}
 use Rattle.std.proofs.lemmas.Option.{get_or_from_slice_get}
 use Rattle.crew_stations.specs.Stations.{StationPlan, stations, crews_at}
 use Rattle.crew_stations.proofs.Fleets.{crews_small}

@@ -1,7 +1,7 @@
-use Rattle.std.proofs.Common.{◌≡◌, ◌+◌, ◌*◌, ◌<◌, ◌≤◌, suc, ap, ap₂, ◌∙◌, arith}
+use Rattle.std.proofs.Common.{◌≡◌, ◌+◌, ◌*◌, ◌≤◌, suc, ap, ap₂, ◌∙◌, arith}
 use Rattle.hyper_model.specs.Sums.{sum_below}
-use Rattle.crew_stations.specs.Stations.{stations, crews_at, crew_service}
-use Rattle.crew_stations.proofs.Fleets.{service_so_far}
+use Rattle.crew_stations.specs.Stations.{stations, crews_at, crew_service, fleet_service}
+use Rattle.crew_stations.proofs.Fleets.{service_positive, service_so_far}
 use Rattle.crew_stations.proofs.fleet.Fleet.service.Goals as goal
 
 pub overflow_add-service : goal.overflow_add-service
@@ -14,3 +14,11 @@ overflow_add-service c =
     ≡ sum_below (suc c.loop-k.k) (λ k. crews_at s k * crew_service s k) =
     ap₂ (λ a b. a + b) c.loop-k.invariant here in
     omega (arith, next, service_so_far s c.law_fleet.ensures (suc c.loop-k.k) inside)
+
+pub returns-clause-least : goal.returns-clause-least
+returns-clause-least c =
+    let s = c.args.self.now in
+    let last : c.loop-k.k ≡ stations s = omega (arith, c.loop-k.auto.k-end, c.loop-k-test.false, c.stations-k-end.ensures.stations) in
+    let whole : c.loop-k.service ≡ fleet_service s =
+    c.loop-k.invariant ∙ ap (λ n. sum_below n (λ k. crews_at s k * crew_service s k)) last in
+    omega (arith, whole, service_positive s c.law_fleet.ensures)

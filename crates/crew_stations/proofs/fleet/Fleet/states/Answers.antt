@@ -1,6 +1,5 @@
-use Rattle.std.proofs.Common.{◌≡◌, ◌+◌, ◌*◌, ◌^◌, ◌<◌, ◌≤◌, suc, ap, ap₂, ◌∙◌, subst, sym, arith}
-use Rattle.crew_stations.specs.declared.TheConstants.{MOST_STATES}
-use Rattle.crew_stations.specs.Stations.{stations, crews_at, stride, stride_of}
+use Rattle.std.proofs.Common.{◌≡◌, ◌+◌, ◌*◌, ◌≤◌, suc, ap₂, arith}
+use Rattle.crew_stations.specs.Stations.{stations, crews_at, stride_of}
 use Rattle.crew_stations.proofs.Fleets.{stride_small}
 use Rattle.crew_stations.proofs.Radix.{stride_positive}
 use Rattle.crew_stations.proofs.fleet.Fleet.states.Goals as goal
