@@ -58,6 +58,11 @@ pub record BoundSolutions (n : ℕ) (rate : RateTable) (low high : ℕ → ℕ) 
 abbrev pub CertificatesBound : ℕ → RateTable → Type 0
 CertificatesBound n rate = (low high : ℕ → ℕ) → AreCertified n rate low high → BoundSolutions n rate low high
 
+-- the widest bounds: from 0 to 1 at each state
+pub record AreWidest (n : ℕ) (low high : ℕ → ℕ) : Type 0 where
+  pub lowest : (i : ℕ) → i < n → low i ≡ 0
+  pub highest : (i : ℕ) → i < n → high i ≡ 1
+
 abbrev pub low_ends : List Ends → ℕ → ℕ
 low_ends items i = (ends_at items i).lo
 

@@ -10,6 +10,7 @@ mod checking;
 mod flows;
 mod laws;
 mod masses;
+mod pace;
 mod room;
 mod settling;
 mod solving;

@@ -19,6 +19,19 @@ pub(crate) fn balanced_mass(flow: u128, leaving: u64) -> u64
     mass_of((flow + leaving / 2) / leaving)
 }
 
+/// The mass moved toward its aim by a factor of the distance, in 64ths: past the aim if that is more than 1.
+pub(crate) fn moved_mass(mass: u64, aim: u64, factor: u64) -> u64
+    ensures { result ≤ 2 ^ 61 }
+{
+    let way = (u128::from(aim.abs_diff(mass)) * u128::from(factor)) >> 6;
+    let mass = u128::from(mass);
+    if u128::from(aim) > mass {
+        mass_of(mass.saturating_add(way))
+    } else {
+        mass_of(mass.saturating_sub(way))
+    }
+}
+
 /// Makes all masses this one.
 pub(crate) fn fill(masses: &mut [u64], mass: u64)
     ensures { (k : ℕ) → k < length masses.old → slice_index masses.new k ≡ mass }

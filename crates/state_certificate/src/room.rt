@@ -4,23 +4,38 @@ ghost use Rattle.state_certificate.specs.Masses.{AreMasses, AreOrdered};
 use crate::Flows;
 use crate::masses::{balanced_mass, mass_of};
 
-/// Widens the room of each state but the reference to what flows into it from the room of others, and one unit. Answers
-/// whether no room grew.
+/// How much smaller than its mass the first room of a state is, in bits: so room is in proportion to the masses, as what
+/// the sweeps leave unbalanced is.
+const FIRST_ROOM: u32 = 36;
+
+/// Makes the first room, in proportion to the masses, and none at the reference.
+#[tactic(auto, using(crate::proofs::MassLists::masses_set))]
+pub(crate) fn make_room<F: Flows>(flows: &F, reference: usize, masses: &[u64], room: &mut [u64])
+    requires masses { AreMasses (F.states flows.now) (2 ^ 61) masses.now }
+    requires room { AreMasses (F.states flows.now) (2 ^ 61) room.old }
+    ensures { AreMasses (F.states flows.now) (2 ^ 61) room.new }
+{
+    for state in 0..flows.size() {
+        room[state] = if state == reference {
+            0
+        } else {
+            mass_of(u128::from(masses[state] >> FIRST_ROOM))
+        };
+    }
+}
+
+/// Gives each state but the reference the room with which it balances, and one unit.
 #[tactic(auto, using(crate::proofs::MassLists::masses_set, crate::proofs::MassLists::masses_roomy))]
-pub(crate) fn widen<F: Flows>(flows: &F, reference: usize, unit: u64, room: &mut [u64]) -> bool
+pub(crate) fn widen<F: Flows>(flows: &F, reference: usize, unit: u64, room: &mut [u64])
     requires { AreMasses (F.states flows.now) (2 ^ 61) room.old }
     ensures { AreMasses (F.states flows.now) (2 ^ 61) room.new }
 {
-    let mut still = true;
     for state in 0..flows.size() {
-        let spread = balanced_mass(flows.inflow(room, state), flows.leaving(state));
-        let wider = mass_of(u128::from(spread) + u128::from(unit));
-        if state != reference && wider > room[state] {
-            room[state] = wider;
-            still = false;
+        if state != reference {
+            let balanced = balanced_mass(flows.inflow(room, state), flows.leaving(state));
+            room[state] = mass_of(u128::from(balanced) + u128::from(unit));
         }
     }
-    still
 }
 
 /// Doubles the room of each state.

@@ -2,42 +2,39 @@ ghost use Rattle.std.specs.Prelude.{◌^◌};
 ghost use Rattle.state_certificate.specs.Masses.{AreMasses};
 
 use crate::Flows;
-use crate::masses::{balanced_mass, heaviest, mass_of};
-
-/// The most sweeps.
-const MOST_SWEEPS: u32 = 4096;
+use crate::masses::{balanced_mass, heaviest, mass_of, moved_mass};
+use crate::pace::{ONE, Pace};
 
 /// In so many sweeps the table improves the masses first. Later it would round each mass anew.
 const IMPROVED_SWEEPS: u32 = 16;
 
-/// After so many sweeps with no smaller change than before, only rounding is left.
-const STALE_SWEEPS: u32 = 16;
-
-/// A sweep that changes no mass by so much is the last.
-const LEAST_CHANGE: u64 = 8;
+/// The most sweeps after these.
+const MOST_SWEEPS: u32 = 4080;
 
 /// Sweeps the states until their masses hardly change, or come no nearer to a solution.
 pub(crate) fn settle<F: Flows>(flows: &F, masses: &mut [u64])
     requires { AreMasses (F.states flows.now) (2 ^ 61) masses.old }
     ensures { AreMasses (F.states flows.now) (2 ^ 61) masses.new }
 {
-    let mut least = u64::MAX;
-    let mut stale = 0u32;
-    for number in 0..MOST_SWEEPS {
-        if number < IMPROVED_SWEEPS {
-            flows.improve(masses);
-            raise(flows, masses);
-        }
-        let change = sweep(flows, masses);
-        stale = if change < least {
-            0
-        } else {
-            stale.saturating_add(1)
-        };
-        least = least.min(change);
-        if change < LEAST_CHANGE || stale == STALE_SWEEPS {
+    let mut pace = Pace::first();
+    improve_often(flows, masses);
+    for _ in 0..MOST_SWEEPS {
+        let distance = sweep(flows, masses, pace.factor());
+        if pace.is_last(distance) {
             return;
         }
+    }
+}
+
+/// Lets the table improve the masses, and sweeps them, some times.
+fn improve_often<F: Flows>(flows: &F, masses: &mut [u64])
+    requires { AreMasses (F.states flows.now) (2 ^ 61) masses.old }
+    ensures { AreMasses (F.states flows.now) (2 ^ 61) masses.new }
+{
+    for _ in 0..IMPROVED_SWEEPS {
+        flows.improve(masses);
+        raise(flows, masses);
+        sweep(flows, masses, ONE);
     }
 }
 
@@ -54,17 +51,18 @@ fn raise<F: Flows>(flows: &F, masses: &mut [u64])
     }
 }
 
-/// Gives each state the mass with which it balances, one after the other, and answers by how much one changed at most.
+/// Moves the mass of each state toward that with which it balances, one after the other, by this factor of the distance,
+/// in the unit of `ONE`. Answers how far one was from balance at most.
 #[tactic(auto, using(crate::proofs::MassLists::masses_set, crate::proofs::MassLists::masses_roomy))]
-fn sweep<F: Flows>(flows: &F, masses: &mut [u64]) -> u64
+fn sweep<F: Flows>(flows: &F, masses: &mut [u64], factor: u64) -> u64
     requires { AreMasses (F.states flows.now) (2 ^ 61) masses.old }
     ensures { AreMasses (F.states flows.now) (2 ^ 61) masses.new }
 {
-    let mut change = 0;
+    let mut distance = 0;
     for state in 0..flows.size() {
-        let mass = balanced_mass(flows.inflow(masses, state), flows.leaving(state));
-        change = change.max(mass.abs_diff(masses[state]));
-        masses[state] = mass;
+        let aim = balanced_mass(flows.inflow(masses, state), flows.leaving(state));
+        distance = distance.max(aim.abs_diff(masses[state]));
+        masses[state] = moved_mass(masses[state], aim, factor);
     }
-    change
+    distance
 }

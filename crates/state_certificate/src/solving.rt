@@ -1,18 +1,21 @@
-ghost use Rattle.std.specs.Prelude.{◌≡◌, ℕ, ◌^◌, ◌≤◌, IsTrue, length};
+ghost use Rattle.std.specs.Prelude.{◌≡◌, ℕ, ◌^◌, ◌≤◌, IsFalse, IsTrue, length};
 ghost use Rattle.hyper_model.specs.Solutions.{mass_in};
-ghost use Rattle.state_certificate.specs.Certificates.{AreCertified, BoundSolutions, IsCertificate};
+ghost use Rattle.state_certificate.specs.Certificates.{AreCertified, AreWidest, BoundSolutions, IsCertificate};
 ghost use Rattle.state_certificate.specs.Masses.{AreMasses, AreOrdered};
 
 use crate::masses::{fill, heaviest};
-use crate::room::{double, spread, widen};
+use crate::room::{double, make_room, spread, widen};
 use crate::settling::settle;
 use crate::{Flows, is_certificate};
 
 /// The mass of each state before the first sweep.
 const FIRST_MASS: u64 = 1 << 48;
 
-/// The first unit of room: more than the sweeps leave unbalanced.
-const FIRST_UNIT: u64 = 16;
+/// The least first unit of room: more than the sweeps leave unbalanced.
+const LEAST_UNIT: u64 = 16;
+
+/// The first unit of room is one more for so many states: the more there are, the further away from the reference one is.
+const STATES_A_UNIT: usize = 256;
 
 /// How often the room is doubled at most.
 const MOST_DOUBLINGS: u32 = 32;
@@ -42,6 +45,7 @@ pub fn bound_solutions<F: Flows>(
     requires low { length low.old ≡ F.states flows.now }
     requires high { length high.old ≡ F.states flows.now }
     ensures certified { IsTrue result → AreCertified (F.states flows.now) (F.rates flows.now) (mass_in low.new) (mass_in high.new) }
+    ensures widest { IsFalse result → AreWidest (F.states flows.now) (mass_in low.new) (mass_in high.new) }
     ensures bounds { BoundSolutions (F.states flows.now) (F.rates flows.now) (mass_in low.new) (mass_in high.new) }
     ensures ordered { AreOrdered (F.states flows.now) (2 ^ 62) low.new high.new }
 {
@@ -75,11 +79,13 @@ fn certify<F: Flows>(
         → IsCertificate (F.states flows.now) (F.rates flows.now) reference (mass_in low.new) (mass_in high.new) }
     ensures ordered { AreOrdered (F.states flows.now) (2 ^ 62) low.new high.new }
 {
+    let first = LEAST_UNIT + (flows.size() / STATES_A_UNIT) as u64;
+    make_room(flows, reference, masses, room);
     for doublings in 0..MOST_DOUBLINGS {
         if certify_by(
             flows,
             reference,
-            FIRST_UNIT << doublings,
+            first << doublings,
             masses,
             room,
             low,
@@ -92,7 +98,7 @@ fn certify<F: Flows>(
     false
 }
 
-/// Does so by one unit of room, until no room grows.
+/// Does so by one unit of room.
 fn certify_by<F: Flows>(
     flows: &F,
     reference: usize,
@@ -111,27 +117,21 @@ fn certify_by<F: Flows>(
     ensures ordered { AreOrdered (F.states flows.now) (2 ^ 62) low.new high.new }
 {
     for _ in 0..MOST_CHECKS {
-        let still = widen_often(flows, reference, unit, room);
+        widen_often(flows, reference, unit, room);
         spread(flows, masses, room, low, high);
         if is_certificate(flows, reference, low, high) {
             return true;
-        }
-        if still {
-            return false;
         }
     }
     false
 }
 
-/// Widens the room some times, or until none grows, and answers whether none does.
-fn widen_often<F: Flows>(flows: &F, reference: usize, unit: u64, room: &mut [u64]) -> bool
+/// Widens the room some times.
+fn widen_often<F: Flows>(flows: &F, reference: usize, unit: u64, room: &mut [u64])
     requires { AreMasses (F.states flows.now) (2 ^ 61) room.old }
     ensures { AreMasses (F.states flows.now) (2 ^ 61) room.new }
 {
     for _ in 0..WIDENINGS {
-        if widen(flows, reference, unit, room) {
-            return true;
-        }
+        widen(flows, reference, unit, room);
     }
-    false
 }

@@ -3,7 +3,7 @@ use Rattle.std.proofs.Common.{◌≡◌, ℕ, ◌+◌, ◌-◌, ◌*◌, ◌^◌
 use Rattle.std.specs.List.{range_with_len}
 use Rattle.std.specs.Prelude.{slice_index}
 use Rattle.std.proofs.lemmas.List.{append-nil, length-map, length_push}
-use Rattle.std.proofs.lemmas.List.FromFn.{length-map-range_with_len}
+use Rattle.std.proofs.lemmas.List.FromFn.{fill_by_all, length-map-range_with_len}
 use Rattle.std.proofs.Math.Nat.{le_of_mul-le-mul_left}
 use Rattle.fixed_interval.specs.Ends.{Ends, between, shifted_ends}
 use Rattle.fixed_interval.specs.WeightList.{EnclosesAll, PushesShifted, ends_at}
@@ -25,7 +25,7 @@ use Rattle.crew_stations.proofs.Balance.{states_balance}
 use Rattle.crew_stations.proofs.Parts.{full_mass, same_calls, same_service, states_full}
 use Rattle.queue_tail.specs.Tail.{IsTailOf, tail_weight}
 use Rattle.queue_tail.proofs.Tail.{tail_encloses}
-use Rattle.state_certificate.specs.Certificates.{BoundSolutions}
+use Rattle.state_certificate.specs.Certificates.{AreWidest, BoundSolutions}
 use Rattle.state_certificate.proofs.MaximumPrinciple.{certificates_bound}
 use Rattle.station_flows.specs.CertifiedStates.{AreCertifiedStateWeights, EncloseEverySolution, GainsWaiting, masses_by_place, places_on, tail_masses, weights_between}
 
@@ -59,6 +59,13 @@ module _ (s : StationPlan) where
 
     pub count : length (weights_between low high (states s)) ≡ states s
     count = length-map-range_with_len (λ state. shifted_ends 10 (between (low state) (high state))) 0 (states s)
+
+    -- the widest masses give the widest weights
+    pub widest_weights : AreWidest (states s) low high
+        → weights_between low high (states s) ≡ weights_between (λ _. 0) (λ _. 1) (states s)
+    widest_weights w =
+        fill_by_all (λ _. shifted_ends 10 (between 0 1)) (weights_between low high (states s)) (states s) (between 0 0) count
+        (λ a l. weight_here a l ∙ ap₂ (λ x y. shifted_ends 10 (between x y)) (w.lowest a l) (w.highest a l))
 
     -- masses that bound every solution, as weights enclose it
     pub states_enclose : BoundSolutions (states s) (state_table s) low high → (y : ℕ → ℕ)

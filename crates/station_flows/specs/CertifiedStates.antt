@@ -44,6 +44,12 @@ pub record AreCertifiedStateWeights (s : StationPlan) (items : List Ends) : Type
   pub states : AreWeightsOfStates s before
   pub waiting : GainsWaiting s.parts.line s before items
 
+-- the widest weights of a fleet: from 0 to 1 for each state
+pub record AreWidestStateWeights (s : StationPlan) (items : List Ends) : Type 0 where
+  pub before : List Ends
+  pub states : before ≡ weights_between (λ _. 0) (λ _. 1) (states s)
+  pub waiting : GainsWaiting s.parts.line s before items
+
 -- the masses of the states, and if calls wait the mass of all states in which one does
 abbrev pub tail_masses : Line → ℕ → List ℕ
 tail_masses line.Zero z = []

@@ -2,7 +2,7 @@
 use Rattle.std.specs.Prelude.{◌≡◌, ℕ, ◌+◌, ◌*◌, ◌<◌, ◌==◌, nat_lt, if◌then◌else◌, List, length, slice_index}
 use Rattle.hyper_model.specs.Plans.{atoms, calls_of}
 use Rattle.hyper_model.specs.Sums.{sum_below}
-use Rattle.crew_stations.specs.Stations.{StationPlan, stations, stride_of, states, answers, sent_rate, ended_rate}
+use Rattle.crew_stations.specs.Stations.{StationPlan, stations, stride_of, states, busy_in, answers, sent_rate, ended_rate}
 
 -- of each station, what one busy crew more adds to the number of a state
 pub record HasStrides (s : StationPlan) (strides : List ℕ) : Type 0 where
@@ -17,6 +17,15 @@ place_of s state k = state * stations s + k
 pub record HasRates (s : StationPlan) (rate : ℕ → ℕ → ℕ) (rates : List ℕ) : Type 0 where
   pub one_each : length rates ≡ states s * stations s
   pub each : (state k : ℕ) → state < states s → k < stations s → slice_index rates (place_of s state k) ≡ rate state k
+
+-- the list has how many crews of each station are busy in each state, laid out alike
+abbrev pub HasDigits : StationPlan → List ℕ → Type 0
+HasDigits s digits = HasRates s (busy_in s) digits
+
+-- a fleet's states are numbered: by the strides, and back by the digits
+pub record IsNumbered (s : StationPlan) (strides digits : List ℕ) : Type 0 where
+  pub forward : HasStrides s strides
+  pub back : HasDigits s digits
 
 -- the rate at which crews of station k are sent to calls of the first atoms
 abbrev pub sent_to_first : ℕ → StationPlan → ℕ → ℕ → ℕ

@@ -5,7 +5,7 @@ ghost use Rattle.crew_stations.specs.Stations.{stations, states, state_table, se
 ghost use Rattle.state_certificate.specs.Masses.{AreMasses};
 ghost use Rattle.station_flows.specs.StateRates.{HasLeavings, HasRates};
 
-use crate::levels::balance_levels;
+use crate::levels::{balance_levels, balance_stations};
 use crate::numbers::StateNumbers;
 use crate::rates::{fill_leavings, fill_sent, sent_from};
 use crew_stations::Fleet;
@@ -23,7 +23,7 @@ pub struct StateFlows<'a> {
 }
 
 impl<'a> StateFlows<'a> {
-    /// The states of this fleet. All memory is taken here: 4 bytes for each station and each state, and 8 more for each
+    /// The states of this fleet. All memory is taken here: 5 bytes for each station and each state, and 8 more for each
     /// state.
     pub fn of(alloc: Global, fleet: &'a Fleet) -> Result<StateFlows<'a>, AllocError>
         ensures { IfOk result (λ flows. flows.numbers ≡ fleet.now) }
@@ -99,5 +99,6 @@ impl Flows for StateFlows<'_> {
     fn improve(&self, masses: &mut [u64]) {
         let _fleet = self.numbers.fleet();
         balance_levels(&self.numbers, &self.leavings, masses);
+        balance_stations(&self.numbers, &self.sent, masses);
     }
 }

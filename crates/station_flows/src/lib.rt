@@ -2,6 +2,7 @@
 //! the weights that enclose every solution over the words of the crews.
 #![tactic(auto)]
 
+mod digits;
 mod flows;
 mod laws;
 mod levels;

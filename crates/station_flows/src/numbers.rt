@@ -1,3 +1,4 @@
+use crate::digits::{fill_digits, strides_of};
 use crew_stations::{Fleet, law_fleet};
 use std::alloc::{AllocError, Global};
 use std::marker::Model;
@@ -9,17 +10,18 @@ use std::marker::Model;
 pub(crate) struct StateNumbers<'a> {
     fleet: &'a Fleet,
     strides: Vec<usize>,
+    digits: Vec<u8>,
 }
 
 impl<'a> Model for StateNumbers<'a> {
     ghost use Rattle.crew_stations.specs.Stations.{StationPlan};
-    ghost use Rattle.station_flows.specs.StateRates.{HasStrides};
+    ghost use Rattle.station_flows.specs.StateRates.{IsNumbered};
 
     ghost Value = { StationPlan };
 
     ghost view = { λ a. a.fleet.now };
 
-    ghost invariant = { λ a. HasStrides a.fleet.now a.strides.items };
+    ghost invariant = { λ a. IsNumbered a.fleet.now a.strides.items a.digits.items };
 }
 
 impl<'a> StateNumbers<'a> {
@@ -30,18 +32,18 @@ impl<'a> StateNumbers<'a> {
     ghost use Rattle.crew_stations.specs.Fleets.{IsFleet};
     ghost use Rattle.crew_stations.specs.Stations.{stations, crews_at, crew_service, stride_of, states, busy_in, has_room as has_room_in, answers};
 
-    /// The numbers of this fleet's states.
+    /// The numbers of this fleet's states. All memory is taken here: 1 byte for each station and each state.
     pub(crate) fn of(alloc: Global, fleet: &'a Fleet) -> Result<StateNumbers<'a>, AllocError>
         ensures { IfOk result (λ numbers. numbers ≡ fleet.now) }
     {
-        law_fleet(fleet);
-        let mut strides = Vec::with_capacity(alloc, fleet.stations())?;
-        let mut stride = 1;
-        for station in 0..fleet.stations() {
-            strides.push(stride)?;
-            stride *= fleet.crews(station) as usize + 1;
-        }
-        Ok(StateNumbers { fleet, strides })
+        let strides = strides_of(alloc, fleet)?;
+        let mut digits = vec![in alloc; 0; fleet.states() * fleet.stations()]?;
+        fill_digits(fleet, &strides, &mut digits);
+        Ok(StateNumbers {
+            fleet,
+            strides,
+            digits,
+        })
     }
 
     /// The fleet, whose numbers are within their limits.
@@ -102,16 +104,19 @@ impl<'a> StateNumbers<'a> {
 
     /// How many crews of the station are busy in the state.
     pub(crate) fn busy(&self, state: usize, station: usize) -> usize
-        requires { station < stations self.now }
+        requires state { state < states self.now }
+        requires station { station < stations self.now }
         ensures busy { result ≡ busy_in self.now state station }
         ensures most { result ≤ crews_at self.now station }
     {
-        state / self.stride(station) % (self.crews(station) + 1)
+        law_fleet(self.fleet);
+        usize::from(self.digits[state * self.stations() + station])
     }
 
     /// Whether a crew of the station is free in the state.
     pub(crate) fn has_room(&self, state: usize, station: usize) -> bool
-        requires { station < stations self.now }
+        requires state { state < states self.now }
+        requires station { station < stations self.now }
         ensures { result ≡ has_room_in self.now state station }
     {
         self.busy(state, station) < self.crews(station)
@@ -119,6 +124,7 @@ impl<'a> StateNumbers<'a> {
 
     /// How many crews are busy in the state.
     pub(crate) fn level(&self, state: usize) -> usize
+        requires { state < states self.now }
         ensures { result ≤ MOST_CREWS }
     {
         let _fleet = self.fleet();
@@ -131,7 +137,8 @@ impl<'a> StateNumbers<'a> {
 
     /// The station that a call of the atom goes to in the state: the first of its list with a free crew.
     pub(crate) fn first_with_room(&self, state: usize, atom: usize) -> Option<usize>
-        requires { atom < atoms self.now.parts }
+        requires state { state < states self.now }
+        requires atom { atom < atoms self.now.parts }
         ensures some { IfSome result (λ first. (first < stations self.now)
             × ((k : ℕ) → answers self.now atom state k ≡ (first == k))) }
         ensures none { IsNone result → (k : ℕ) → answers self.now atom state k ≡ false }

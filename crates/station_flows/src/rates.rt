@@ -69,8 +69,9 @@ pub(crate) fn sent_from(numbers: &StateNumbers, sent: &[u32], state: usize, stat
 }
 
 /// The rate at which busy crews of the station end their services in the state.
-fn ended_from(numbers: &StateNumbers, state: usize, station: usize) -> u64
-    requires { station < stations numbers.now }
+pub(crate) fn ended_from(numbers: &StateNumbers, state: usize, station: usize) -> u64
+    requires state { state < states numbers.now }
+    requires station { station < stations numbers.now }
     ensures rate { result ≡ ended_rate numbers.now state station }
     ensures most { result ≤ 200 * MOST_RATE }
 {

@@ -44,8 +44,8 @@ pub struct StateWeights {
 }
 
 impl<'a> StationSolver<'a> {
-    ghost use Rattle.std.specs.Prelude.{◌≡◌, IfOk, IsTrue, length};
-    ghost use Rattle.station_flows.specs.CertifiedStates.{AreCertifiedStateWeights, EncloseEverySolution, places};
+    ghost use Rattle.std.specs.Prelude.{◌≡◌, IfOk, IsFalse, IsTrue, length};
+    ghost use Rattle.station_flows.specs.CertifiedStates.{AreCertifiedStateWeights, AreWidestStateWeights, EncloseEverySolution, places};
 
     /// The solver of this fleet. All memory is taken here.
     pub fn reserved(alloc: Global, fleet: &'a Fleet) -> Result<StationSolver<'a>, AllocError>
@@ -69,6 +69,7 @@ impl<'a> StationSolver<'a> {
     pub fn weigh(self) -> StateWeights
         ensures one_each { length result.weights.items ≡ places self.entry }
         ensures certified { IsTrue result.is_certified → AreCertifiedStateWeights self.entry result.weights.items }
+        ensures widest { IsFalse result.is_certified → AreWidestStateWeights self.entry result.weights.items }
         ensures encloses { EncloseEverySolution self.entry result.weights.items }
     {
         let StationSolver {

@@ -1,4 +1,4 @@
-ghost use Rattle.std.specs.Prelude.{◌≡◌, ℕ, ◌+◌, ◌^◌, ◌≤◌, IsTrue, List, [], ◌++◌, length};
+ghost use Rattle.std.specs.Prelude.{◌≡◌, ℕ, ◌+◌, ◌^◌, ◌≤◌, IsFalse, IsTrue, List, [], ◌++◌, length};
 ghost use Rattle.fixed_interval.specs.Ends.{between, shifted_ends};
 ghost use Rattle.fixed_interval.specs.WeightList.{EnclosesAll};
 ghost use Rattle.hyper_model.specs.declared.kinds.Line.TheVariants as line;
@@ -7,7 +7,7 @@ ghost use Rattle.hyper_model.specs.Solutions.{mass_in};
 ghost use Rattle.crew_stations.specs.Stations.{fleet_service, states};
 ghost use Rattle.queue_tail.specs.Tail.{IsTailOf};
 ghost use Rattle.state_certificate.specs.Masses.{AreOrdered};
-ghost use Rattle.station_flows.specs.CertifiedStates.{AreCertifiedStateWeights, EncloseEverySolution, GainsWaiting, places, tail_masses, weights_between};
+ghost use Rattle.station_flows.specs.CertifiedStates.{AreCertifiedStateWeights, AreWidestStateWeights, EncloseEverySolution, GainsWaiting, places, tail_masses, weights_between};
 
 use crate::StateFlows;
 use crate::solver::FleetWeights;
@@ -34,6 +34,7 @@ pub(crate) fn weigh_states(
     requires empty { weights.old.items ≡ [] }
     requires spare { states flows.now.numbers + 1 ≤ weights.old.spare }
     ensures certified { IsTrue result → AreCertifiedStateWeights flows.now.numbers weights.new.items }
+    ensures widest { IsFalse result → AreWidestStateWeights flows.now.numbers weights.new.items }
     ensures one_each { length weights.new.items ≡ places flows.now.numbers }
     ensures encloses { EncloseEverySolution flows.now.numbers weights.new.items }
 {

@@ -91,14 +91,15 @@ fn level_flows(plan: &Plan, leavings: &[u64], masses: &[u64], busy: u8) -> (u128
     (coming, ending)
 }
 
-/// Multiplies the masses of a level's words by a factor, of which the numerator and the denominator are given.
+/// Multiplies the masses of a level's words by a factor, of which the numerator and the denominator are given. If either is 0
+/// they stay as they are: masses that are 0 would never grow.
 #[tactic(auto, using(state_certificate::proofs::MassLists::masses_set))]
 fn scale_level(plan: &Plan, masses: &mut [u64], busy: u8, numerator: u128, denominator: u128)
     requires { AreMasses (words plan.now) (2 ^ 61) masses.old }
     ensures { AreMasses (words plan.now) (2 ^ 61) masses.new }
 {
     let (numerator, denominator) = narrow(numerator, denominator);
-    if denominator == 0 {
+    if numerator == 0 || denominator == 0 {
         return;
     }
     for word in 0..words_of(plan) {

@@ -10,7 +10,7 @@ use Rattle.crew_stations.proofs.Balance.{states_balance}
 use Rattle.crew_stations.proofs.Radix.{stride_positive}
 use Rattle.queue_tail.specs.Tail.{IsTailOf}
 use Rattle.station_flows.specs.CertifiedStates.{GainsWaiting, tail_masses, weights_between}
-use Rattle.station_flows.proofs.Enclosing.{count, states_enclose, tail_by_place, waiting_count}
+use Rattle.station_flows.proofs.Enclosing.{count, states_enclose, tail_by_place, waiting_count, widest_weights}
 use Rattle.station_flows.proofs.weighing.weigh_states.Goals as goal
 
 pub push_waiting-requires-clause-some : goal.push_waiting-requires-clause-some
@@ -22,6 +22,21 @@ push_waiting-requires-clause-some c =
     let items : c.push_states.new.weights.items ≡ weights_between low high (states s) =
     c.push_states.ensures.items ∙ ap (λ n. weights_between low high n) all in
     omega (arith, ap (λ list. length list) items, count s low high, stride_positive (crews_at s) (stations s))
+
+pub returns-clause-widest : goal.returns-clause-widest
+returns-clause-widest c none =
+    let s = c.args.flows.now.numbers in
+    let low = mass_in c.bound_solutions-certified.new.low in
+    let high = mass_in c.bound_solutions-certified.new.high in
+    let all = c.bound_solutions-certified.ensures.ordered.low_masses.one_each in
+    let items : c.push_states.new.weights.items ≡ weights_between low high (states s) =
+    c.push_states.ensures.items ∙ ap (λ n. weights_between low high n) all in
+    record {
+      before = c.push_states.new.weights.items;
+      states = items ∙ widest_weights s low high (c.bound_solutions-certified.ensures.widest none);
+      waiting = subst (λ f. GainsWaiting f.parts.line f c.push_states.new.weights.items c.push_waiting.new.weights.items)
+          c.fleet.ensures.fleet c.push_waiting.ensures.items;
+    }
 
 pub returns-clause-one_each : goal.returns-clause-one_each
 returns-clause-one_each c =
