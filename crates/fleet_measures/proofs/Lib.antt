@@ -6,3 +6,6 @@ pub mod Workloads
 pub mod Contain
 pub mod CrewWeights
 mod EachCrew
+pub mod Denominators
+pub mod FleetLists
+pub mod WordSums

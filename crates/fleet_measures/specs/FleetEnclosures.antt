@@ -1,6 +1,6 @@
 -- The exact ends of the measures of a fleet of stations, from the weights of its states. All but the workloads are those of
 -- the plan with one unit for each station, from the gathered weights.
-use Rattle.std.specs.Prelude.{◌≡◌, ℕ, ◌-◌, nat_lt, if◌then◌else◌, List, ◌++◌, length, map}
+use Rattle.std.specs.Prelude.{◌≡◌, ◌⊎◌, ℕ, ◌-◌, nat_lt, if◌then◌else◌, List, ◌++◌, length, map}
 use Rattle.std.specs.List.{range_with_len}
 use Rattle.fleet_measures.specs.declared.kinds.FleetMeasure.TheVariants as fleet
 use Rattle.fleet_measures.specs.declared.kinds.FleetEnds.{FleetEnds}
@@ -18,7 +18,8 @@ use Rattle.dispatch_fractions.specs.PartLists.{PartList, parts_from}
 use Rattle.dispatch_fractions.specs.Fractions.{fractions_of, interdistrict_of}
 use Rattle.travel_measures.specs.TravelEnds.{travel_times_of}
 use Rattle.crew_stations.specs.Stations.{StationPlan, stations, crews_at, states, busy_in}
-use Rattle.fleet_measures.specs.Pooled.{AreGathered, pooled}
+use Rattle.station_flows.specs.CertifiedStates.{AreCertifiedStateWeights, AreWidestStateWeights}
+use Rattle.fleet_measures.specs.Pooled.{AreGathered, EncloseCrews, pooled}
 
 -- how many crews of station k are busy at a place of the weights, and how many are free: while a call waits all are busy
 abbrev pub busy_at_place : StationPlan → ℕ → ℕ → ℕ
@@ -64,3 +65,11 @@ pub record AreFleetMeasures (s : StationPlan) (items : List Ends) (list : List F
   pub ordered : IsOrderOf (pooled s) order
   pub weights : AreGathered s order items gathered
   pub exact : list ≡ fleet_measures_of s order items gathered
+
+-- and these weights enclose every solution of the plan with a unit for each crew: they have a certificate, or they are the
+-- widest
+pub record IsFleetEnclosure (s : StationPlan) (list : List FleetEnds) : Type 0 where
+  pub items : List Ends
+  pub encloses : EncloseCrews s items
+  pub found : AreCertifiedStateWeights s items ⊎ AreWidestStateWeights s items
+  pub measures : AreFleetMeasures s items list

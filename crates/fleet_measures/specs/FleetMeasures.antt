@@ -7,6 +7,7 @@ use Rattle.fleet_measures.specs.declared.kinds.FleetEnds.{FleetEnds}
 use Rattle.hyper_model.specs.declared.kinds.Found.{Found}
 use Rattle.hyper_model.specs.declared.kinds.Found.TheVariants as found
 use Rattle.hyper_model.specs.declared.kinds.Measure.TheVariants as measure
+use Rattle.hyper_model.specs.Enclosures.{IsOrderedFound}
 use Rattle.hyper_model.specs.Measures.{Ratio, ContainsRatio, IsInRange, is_without, measure_of, scale_of}
 use Rattle.hyper_model.specs.Solutions.{mass_in, IsSolution}
 use Rattle.crew_stations.specs.CrewMeasures.{crew_measure, exhausted_share}
@@ -35,6 +36,16 @@ IsInFleet s (fleet.Full k) = k < stations s
 
 abbrev pub AreInFleet : StationPlan → List FleetEnds → Type 0
 AreInFleet s items = All (λ e. IsInFleet s e.measure) items
+
+-- a low end is at most its high end
+abbrev pub IsOrderedFleetEnds : FleetEnds → Type 0
+IsOrderedFleetEnds e = IsOrderedFound e.found
+
+-- no measure that has a value is a ratio over 0, in any solution
+abbrev pub HavePositiveFleetDenominators : StationPlan → Type 0
+HavePositiveFleetDenominators s =
+    (xs : List ℕ) (z : ℕ) → IsSolution (expanded s) xs z
+    → (m : FleetMeasure) → IsInFleet s m → has_no_value s m ≡ false → 0 < (fleet_ratio s (mass_in xs) z m).denominator
 
 -- for these masses the measure has a value, and the ends contain it; or nothing was found, and it has none
 abbrev pub IsFleetFound : StationPlan → (ℕ → ℕ) → ℕ → FleetMeasure → Found → Type 0

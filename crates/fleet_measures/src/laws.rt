@@ -5,14 +5,14 @@ ghost use Rattle.crew_stations.specs.Fleets.{IsFleet};
 ghost use Rattle.crew_stations.specs.Stations.{StationPlan};
 ghost use Rattle.fleet_measures.specs.declared.kinds.FleetEnds.{FleetEnds};
 ghost use Rattle.fleet_measures.specs.FleetEnclosures.{AreFleetMeasures};
-ghost use Rattle.fleet_measures.specs.FleetMeasures.{AreInFleet, ContainsCrews, ContainsEachCrew};
+ghost use Rattle.fleet_measures.specs.FleetMeasures.{AreInFleet, ContainsCrews, ContainsEachCrew, HavePositiveFleetDenominators};
 ghost use Rattle.fleet_measures.specs.Pooled.{EncloseCrews};
 ghost use Rattle.station_flows.specs.CertifiedStates.{EncloseEverySolution};
 
 /// If the weights of the states enclose each solution of the plan with a unit for each crew, the ends contain its measures:
 /// Larson's formulas, summed over the crews of a station. Weights that enclose every plan at these stations do. Ends of
 /// a station's workload and mean travel time contain those of each of its crews. Each measure is of one of the fleet's
-/// stations and atoms, or of the region.
+/// stations and atoms, or of the region. No measure that has a value is a ratio over 0.
 pub fn law_fleet_measures()
     ensures contains { (s : StationPlan) → IsFleet s → (items : List Ends) (list : List FleetEnds)
         → AreFleetMeasures s items list → EncloseCrews s items → ContainsCrews s list }
@@ -22,4 +22,5 @@ pub fn law_fleet_measures()
         → ContainsCrews s list → ContainsEachCrew s list }
     ensures in_range { (s : StationPlan) (items : List Ends) (list : List FleetEnds)
         → AreFleetMeasures s items list → AreInFleet s list }
+    ensures positive { (s : StationPlan) → IsFleet s → HavePositiveFleetDenominators s }
 {}
