@@ -19,7 +19,8 @@ pub fn push_head(text: &mut Vec<u8>, plan: &Plan) -> Result<(), AllocError>
     push_rates(text, plan)
 }
 
-fn push_line(text: &mut Vec<u8>, line: Line) -> Result<(), AllocError>
+/// Puts the row of what becomes of a call while all units are busy after the text.
+pub fn push_line(text: &mut Vec<u8>, line: Line) -> Result<(), AllocError>
     ensures { IfOk result (λ _. text.new.items ≡ text.old.items ++ line_row line) }
 {
     match line {

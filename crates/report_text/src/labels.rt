@@ -3,7 +3,7 @@ ghost use Rattle.hyper_model.specs.Measures.{IsInRange, IsSubjectOf};
 ghost use Rattle.hyper_model.specs.Plans.{units, atoms};
 ghost use Rattle.report_text.specs.Labels.{atom_field, label_bytes, label_of, subject_fields, unit_field};
 
-use hyper_model::{Measure, Plan, Subject};
+use hyper_model::{Measure, Plan, PlanParts, Subject};
 use std::alloc::{AllocError, Global};
 use text_lines::push_text_field;
 
@@ -29,37 +29,51 @@ pub fn push_label(
     ensures { IfOk result (λ _.
         text.new.items ≡ text.old.items ++ label_of plan.now word.now subject) }
 {
-    text.extend_from_slice(word.as_bytes())?;
-    push_subject(text, plan, subject)
+    push_label_of(text, plan.parts(), word, subject)
 }
 
-fn push_subject(text: &mut Vec<u8>, plan: &Plan, subject: Subject) -> Result<(), AllocError>
-    requires { IsSubjectOf plan.now subject }
-    ensures { IfOk result (λ _. text.new.items ≡ text.old.items ++ subject_fields plan.now subject) }
+/// Puts a word after the text, and then the names of what it speaks of in these parts of a plan.
+pub fn push_label_of(
+    text: &mut Vec<u8>,
+    parts: &PlanParts,
+    word: &str,
+    subject: Subject,
+) -> Result<(), AllocError>
+    requires { IsSubjectOf parts.now subject }
+    ensures { IfOk result (λ _.
+        text.new.items ≡ text.old.items ++ label_of parts.now word.now subject) }
+{
+    text.extend_from_slice(word.as_bytes())?;
+    push_subject(text, parts, subject)
+}
+
+fn push_subject(text: &mut Vec<u8>, parts: &PlanParts, subject: Subject) -> Result<(), AllocError>
+    requires { IsSubjectOf parts.now subject }
+    ensures { IfOk result (λ _. text.new.items ≡ text.old.items ++ subject_fields parts.now subject) }
 {
     match subject {
         Subject::Region => Ok(()),
-        Subject::Unit(n) | Subject::District(n) => push_unit(text, plan, n),
-        Subject::Atom(j) => push_atom(text, plan, j),
+        Subject::Unit(n) | Subject::District(n) => push_unit(text, parts, n),
+        Subject::Atom(j) => push_atom(text, parts, j),
         Subject::UnitAndAtom(n, j) => {
-            push_unit(text, plan, n)?;
-            push_atom(text, plan, j)
+            push_unit(text, parts, n)?;
+            push_atom(text, parts, j)
         }
     }
 }
 
 /// Puts a comma and the name of unit n.
-pub(crate) fn push_unit(text: &mut Vec<u8>, plan: &Plan, n: u8) -> Result<(), AllocError>
-    requires { n < units plan.now }
-    ensures { IfOk result (λ _. text.new.items ≡ text.old.items ++ unit_field plan.now n) }
+pub(crate) fn push_unit(text: &mut Vec<u8>, parts: &PlanParts, n: u8) -> Result<(), AllocError>
+    requires { n < units parts.now }
+    ensures { IfOk result (λ _. text.new.items ≡ text.old.items ++ unit_field parts.now n) }
 {
-    push_text_field(text, plan.unit(usize::from(n)).name.text().as_bytes())
+    push_text_field(text, parts.units.get(usize::from(n)).name.text().as_bytes())
 }
 
 /// Puts a comma and the name of atom j.
-pub(crate) fn push_atom(text: &mut Vec<u8>, plan: &Plan, j: u16) -> Result<(), AllocError>
-    requires { j < atoms plan.now }
-    ensures { IfOk result (λ _. text.new.items ≡ text.old.items ++ atom_field plan.now j) }
+pub(crate) fn push_atom(text: &mut Vec<u8>, parts: &PlanParts, j: u16) -> Result<(), AllocError>
+    requires { j < atoms parts.now }
+    ensures { IfOk result (λ _. text.new.items ≡ text.old.items ++ atom_field parts.now j) }
 {
-    push_text_field(text, plan.atom(usize::from(j)).name.text().as_bytes())
+    push_text_field(text, parts.atoms.get(usize::from(j)).name.text().as_bytes())
 }

@@ -63,7 +63,7 @@ fn push_preferences(text: &mut Vec<u8>, plan: &Plan, summary: bool) -> Result<()
     if summary {
         Ok(())
     } else {
-        push_lists(text, plan)
+        push_lists(text, plan.parts())
     }
 }
 

@@ -1,5 +1,5 @@
 ghost use Rattle.std.specs.Prelude.{◌≡◌, ◌&&◌, ◌||◌, not, true, false, None, Some, IfErr, OnOk};
-ghost use Rattle.hyper_model.specs.Enclosures.{IsOrderedEnclosed};
+ghost use Rattle.hyper_model.specs.Enclosures.{IsOrderedEnclosed, IsOrderedFound};
 ghost use Rattle.hyper_model.specs.Measures as measures;
 ghost use Rattle.report_text.specs.Reports as spec;
 ghost use Rattle.report_text.specs.TooWide as limits;
@@ -45,7 +45,15 @@ pub fn is_too_wide(item: Enclosed, widths: Widths) -> bool
     requires { IsOrderedEnclosed item }
     ensures { result ≡ is_wide widths item }
 {
-    match (item.found, width_of(widths, item.measure)) {
+    exceeds(width_of(widths, item.measure), item.found)
+}
+
+/// Whether the high end less the low end is more than the width, if one is asked.
+pub fn exceeds(width: Option<u32>, found: Found) -> bool
+    requires { IsOrderedFound found }
+    ensures { result ≡ limits.exceeds width found }
+{
+    match (found, width) {
         (Found::Ends(lo, hi), Some(width)) => hi - lo > u64::from(width),
         _ => false,
     }
@@ -65,7 +73,7 @@ fn is_of_region(measure: Measure) -> bool
 }
 
 /// The width asked of the measure, if any.
-fn width_of(widths: Widths, measure: Measure) -> Option<u32>
+pub fn width_of(widths: Widths, measure: Measure) -> Option<u32>
     ensures { result ≡ limits.width_of widths measure }
 {
     if measure.is_time() {

@@ -10,6 +10,6 @@ use Rattle.report_text.proofs.preference_rows.push_groups.Given as goal
 abbrev pub invariant-loop-place : goal.invariant-loop-place
 invariant-loop-place l =
     l.text.items
-    ++ text_left (codes "group" ++ atom_field l.plan l.j) (unit_field l.plan)
+    ++ text_left (codes "group" ++ atom_field l.parts l.j) (unit_field l.parts)
     (drop l.place l.members) (drop (l.place - 1) l.begins)
-    ≡ l.fn.text.items ++ flat_map (list_row l.plan (codes "group") l.j) (groups_from l.members l.begins)
+    ≡ l.fn.text.items ++ flat_map (list_row l.parts (codes "group") l.j) (groups_from l.members l.begins)

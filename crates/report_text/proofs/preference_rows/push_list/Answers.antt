@@ -3,10 +3,10 @@ use Rattle.report_text.proofs.preference_rows.push_list.Goals as goal
 
 pub push_prefer-requires-clause-units : goal.push_prefer-requires-clause-units
 push_prefer-requires-clause-units c =
-    read_within c.args.plan.now c.lists-lists.result.now c.args.j c.from-atom.result c.list-members.result.now c.requires.accepted
-    c.requires.atom c.lists-lists.ensures c.from-atom.ensures c.list-members.ensures.units
+    read_within c.args.parts.now c.args.j c.from-atom.result c.list-members.result.now c.requires.lists
+    c.requires.atom c.from-atom.ensures c.list-members.ensures.units
 
 pub push_groups-requires-clause-units : goal.push_groups-requires-clause-units
 push_groups-requires-clause-units c =
-    read_within c.args.plan.now c.lists-lists.result.now c.args.j c.from-atom.result c.list-members.result.now c.requires.accepted
-    c.requires.atom c.lists-lists.ensures c.from-atom.ensures c.list-members.ensures.units
+    read_within c.args.parts.now c.args.j c.from-atom.result c.list-members.result.now c.requires.lists
+    c.requires.atom c.from-atom.ensures c.list-members.ensures.units

@@ -6,4 +6,4 @@ use Rattle.report_text.proofs.preference_rows.push_prefer.Given as goal
 
 abbrev pub invariant-loop-n : goal.invariant-loop-n
 invariant-loop-n l = l.text.items
-    ≡ l.fn.text.items ++ (codes "prefer" ++ atom_field l.plan l.j ++ flat_map (unit_field l.plan) (take l.n-index l.members))
+    ≡ l.fn.text.items ++ (codes "prefer" ++ atom_field l.parts l.j ++ flat_map (unit_field l.parts) (take l.n-index l.members))

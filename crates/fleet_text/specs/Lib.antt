@@ -1,0 +1,5 @@
+pub mod FleetLabels
+pub mod FleetHeads
+pub mod CrewRows
+pub mod FleetReports
+pub mod FleetWidths
