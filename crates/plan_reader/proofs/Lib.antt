@@ -3,3 +3,7 @@ pub mod SettingSteps
 pub mod AcceptedPlan
 pub mod FirstCondition
 pub mod SingleParts
+pub mod StateCounts
+pub mod CrewCounts
+pub mod AcceptedFleet
+pub mod FleetSteps

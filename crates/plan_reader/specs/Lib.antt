@@ -3,3 +3,7 @@ pub mod SettingValues
 pub mod Refusals
 pub mod PlanOf
 pub mod Conditions
+pub mod FleetRefusals
+pub mod Crews
+pub mod FleetLimits
+pub mod FleetOf

@@ -48,7 +48,7 @@ fn plan_in(alloc: Global, records: &[Record]) -> Result<Plan, PlanRefusal>
 /// The parts of a plan that the records of a text give, to which this kind of record can be added: all of the steps of
 /// [`read_plan`] after the records, but the last.
 #[tactic(auto, unfolding(crate::specs::PlanOf::parts_given))]
-pub fn read_parts(
+pub(crate) fn read_parts(
     alloc: Global,
     added: AddedKind,
     records: &[Record],
@@ -76,7 +76,7 @@ pub fn read_parts(
 }
 
 /// Refuses calls that wait if they are not fewer than can be served.
-pub fn check_stable(line: Line, calls: u64, service: u64) -> Result<(), PlanRefusal>
+pub(crate) fn check_stable(line: Line, calls: u64, service: u64) -> Result<(), PlanRefusal>
     ensures { Refuses result (stable_refusal line calls service) }
 {
     match line {

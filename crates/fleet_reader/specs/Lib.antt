@@ -1,4 +1,0 @@
-pub mod Refusals
-pub mod Crews
-pub mod Limits
-pub mod FleetOf
