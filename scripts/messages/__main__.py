@@ -88,13 +88,16 @@ def quiet_run(program):
 
 
 def wrong_faults(program):
-    """All faults of a plan, as `./hypercube check` says them: how many, and the status."""
+    """All faults of a plan or a fleet, as `./hypercube check` says them: how many, and the status."""
+    fleet = "version,3\ncrews,A,4\n" + PLAN
     tried = ((PLAN, 0, 0),
              (changed(("unit,A,3", "Unit,A,3"), ("P,P,60", "P,P,x")), 3, 2),
              # Once the trip from P to P is taken out for its form it is missing, which comes before the `at` that stands twice.
              (changed(("P,P,60", "P,P,x")) + "trip\ntravel,P,Q,9\nat,A,P,1\nat,A,X,1\n", 5, 2),
              (PLAN + 'at,A,"P\nQ",1\nunit,A,1\n', 1, 2),
-             (changed(("at,B,Q,1000\n", "")), 1, 2))
+             (changed(("at,B,Q,1000\n", "")), 1, 2),
+             (fleet, 0, 0),
+             (fleet + "crews,A,1\ncrews,X,2\nat,A,X,1\n", 3, 2))
     for text, count, status in tried:
         with tempfile.TemporaryDirectory() as folder:
             (pathlib.Path(folder) / "town.csv").write_text(text)

@@ -64,6 +64,11 @@ def day(name, text, said):
     return Case(name, ["replay", "town.csv", "day.csv"], files, 2, said, command="replay")
 
 
+def fleet(name, text, said):
+    """A fleet that is refused."""
+    return Case(name, ["fleet", "town.csv"], {"town.csv": text}, 2, said)
+
+
 def many_units(count):
     """A plan of so many units at one atom."""
     names = [f"U{number}" for number in range(1, count + 1)]
@@ -75,6 +80,7 @@ QUEUE = changed(("unit,A,3", "unit,A,9")) + "line,infinite\n"
 WIDE = changed(("unit,A,3", "unit,A,300000"), ("unit,B,3", "unit,B,300000")) + "unit,C,300000\nat,C,P,1000\n"
 WIDE = WIDE.replace("prefer,P,A,B", "prefer,P,A,B,C").replace("prefer,Q,B,A", "prefer,Q,B,A,C")
 LOADED = many_units(7).replace("atom,P,1,", "atom,P,1000000,")
+FLEET = "version,3\ncrews,A,4\n" + PLAN
 GROUPS = "version,2\n" + PLAN.replace("prefer", "group")
 STUDY = 'plans = ["town.csv", "{}"]\nmeasures = ["{}"]\n'
 
@@ -87,12 +93,13 @@ HELP = """Write hypercube, a command and its options:
   sweep PLAN UNIT MEASURE   where to put a unit: MEASURE is loss, delay, interdistrict or travel
   replay PLAN DAY           a recorded day beside the plan
   reach PLAN SECONDS        which share of calls is reached in time: SECONDS is 1 to 16 numbers, as 240,480,720
-Options of solve and compare, in any place:
+  fleet FLEET               all measures of a fleet: up to 200 crews, alike at each of up to twelve stations
+Options of solve, compare and fleet, in any place:
   --width W                 how far the ends of a share may lie apart, in millionths: 2 to 999,999,999; default: any
   --time-width W            how far the ends of a time may, in thousandths of a second: 2 to 999,999,999; default: any
-  --workers N               how many processors share the work: 1 to 16; default: 1
-  --summary                 solve only: the measures of the whole region; default: all measures
-  --method METHOD           how intervals are found: elimination or certificate; default: elimination
+  --workers N               not for fleet: how many processors share the work, 1 to 16; default: 1
+  --summary                 not for compare: only the measures of the whole region; default: all measures
+  --method METHOD           not for fleet: how intervals are found, elimination or certificate; default: elimination
 A width is written --width 500 or --width=500. After -- a word that begins with a dash is a name.
 Names of files begin in the current folder. The report goes to standard output, all else to standard error.
 The exit status is 0 for a report, 1 for words that are no command, 2 for a text or a number that is refused,
@@ -127,6 +134,9 @@ PLANS = (
     plan("3: groups before their version", changed(("prefer,P,A,B", "group,P,A,B")),
          'town.csv, record 11 (line 11): "group" is no kind of record. Groups are known only after a record '
          "version,2: put it first. (refusal 3)"),
+    plan("3: crews of a plan", FLEET,
+         'town.csv, record 2 (line 2): "crews" is no kind of record. Crews are known only to the command fleet. '
+         "(refusal 3)"),
     plan("3: UTF-16", PLAN.encode("utf-16"),
          'town.csv, record 1 (line 1): "\\xFF\\xFEu\\x00n\\x00i\\x00t\\x00" is no kind of record. The file seems to '
          "be in UTF-16: save it as UTF-8. (refusal 3)"),
@@ -319,6 +329,46 @@ PLANS = (
          "or write line,zero to have calls lost that find all units busy. (refusal 52)"),
 )
 
+# Each refusal of a fleet, and those of a plan that say something else of one.
+FLEETS = (
+    fleet("3: crews before their version", FLEET.replace("version,3\n", ""),
+          'town.csv, record 1 (line 1): "crews" is no kind of record. Crews are known only after a record version,3: put it '
+          "first. (refusal 3)"),
+    fleet("3: groups of a fleet", FLEET.replace("prefer,P", "group,P"),
+          'town.csv, record 13 (line 13): "group" is no kind of record. A fleet has no groups: list its stations by '
+          "prefer. (refusal 3)"),
+    fleet("3: another word in a fleet", FLEET + "trip,P,Q,3\n",
+          'town.csv, record 15 (line 15): "trip" is no kind of record. A record begins with version, line, rule, period, '
+          "unit, atom, travel, at, prefer, crews or note. (refusal 3)"),
+    fleet("4: crews without a count", FLEET.replace("crews,A,4", "crews,A"),
+          "town.csv, record 2 (line 2): a record of this kind is written crews,UNIT,COUNT, and this one has 2 fields, crews "
+          "included. Write what is missing. Semicolons and tabs do not separate fields. (refusal 4)"),
+    fleet("5: no crews", FLEET.replace("crews,A,4", "crews,A,0"),
+          'town.csv, record 2 (line 2), field 3: the number of crews "0" is no whole number from 1 to 200. Write how many '
+          "crews the station has. Leave out a station without crews. (refusal 5)"),
+    fleet("14: crews of no station", FLEET + "crews,X,2\n",
+          'town.csv, record 15 (line 15), field 2: no unit has the name "X". Add a record for it, or name another. '
+          "(refusal 14)"),
+    fleet("50: groups in a fleet", "version,2\n" + PLAN,
+          'town.csv, record 1 (line 1): there is no version "2" of a fleet. Write version,3 to give stations several crews; '
+          "with one crew at each station the record may be left out. (refusal 50)"),
+    fleet("52: a fleet", FLEET.replace("atom,P,1,", "atom,P,14,") + "line,infinite\n",
+          "town.csv: 15 calls come in a period, and all crews together can serve 15. With the infinite line of record 15 "
+          "(line 15) ever more calls would wait. Add crews, check that all rates are of one period, or write line,zero to have "
+          "calls lost that find all crews busy. (refusal 52)"),
+    fleet("100", FLEET + "crews,A,1\n",
+          'town.csv, record 15 (line 15): the crews of the station "A" are given twice, first in record 2 (line 2). Delete '
+          "one. (refusal 100)"),
+    fleet("101", FLEET + "crews,B,197\n",
+          "town.csv: the fleet has 201 crews, and may have 200. Make a fleet of a part of the region. (refusal 101)"),
+    fleet("102", "version,3\n" + many(5, "crews,U{},10") + many_units(5),
+          "town.csv: the fleet has 161,051 states, and may have 65,536: multiply, over the stations, their crews and one. "
+          "Join stations that lie close together, or take crews away where they are hardly busy. (refusal 102)"),
+    fleet("103", FLEET.replace("unit,A,3", "unit,A,250000"),
+          "town.csv: the service rates of all crews come to 1,000,003 in all, more than 1,000,000. Choose a shorter period, "
+          "and divide all rates of calls and of service. (refusal 103)"),
+)
+
 # Each refusal of a study, and of a plan of one.
 STUDIES = (
     study("60: no TOML", 'plans = ["a"\n"b"]\n',
@@ -447,6 +497,9 @@ ENDINGS = (
          "other.csv: the measure interdistrict lies between 0.841810 and 0.871217, which are 0.029407 apart, "
          "and --width asks for less. Ask for a greater width or leave --width out. Fewer units, or fewer calls"
          " for each service, make the ends narrower."),
+    Case("4: a fleet", ["fleet", "gone.csv"], {}, 4,
+         "there is no file gone.csv in the current folder, where names begin, those in a study too. Is its "
+         "name spelled so, with these capitals?"),
     Case("4: in this folder", ["solve", "gone.csv"], {}, 4,
          "there is no file gone.csv in the current folder, where names begin, those in a study too. Is its "
          "name spelled so, with these capitals?"),
@@ -544,6 +597,14 @@ USAGES = (
           "SECONDS has 17 numbers, and may have 16. Ask in several runs."),
     usage(["reach", "town.csv", "480", "--workers", "2"],
           "reach has no option --workers."),
+    usage(["fleet"],
+          "fleet lacks a word. Write fleet FLEET."),
+    usage(["fleet", "town.csv", "--workers", "2"],
+          "fleet has no option --workers."),
+    usage(["fleet", "town.csv", "--method=certificate"],
+          "fleet has no option --method."),
+    usage(["fleet", "town.csv", "--width", "1"],
+          '--width is "1", and has to be a number from 2 to 999,999,999, of at most 9 digits.'),
     usage(["solve", "town.csv", "--method"],
           "elimination or certificate has to follow --method."),
     usage(["compare", "town.csv", "--method=gauss"],
@@ -566,4 +627,4 @@ USAGES = (
          VERSION),
 )
 
-CASES = (*PLANS, *STUDIES, *COMMANDS, *ENDINGS, *USAGES)
+CASES = (*PLANS, *FLEETS, *STUDIES, *COMMANDS, *ENDINGS, *USAGES)

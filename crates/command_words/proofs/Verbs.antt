@@ -16,7 +16,7 @@ unequal a b apart = by (bytes_eq a b) (bytes_eq-Decides a b).0
     by false same = refl
 
 pub without : (verb : List ℕ) (names : List (List ℕ)) (settings : List Setting) (result : Result Command WordsEnd)
-    → (verb ≡ codes "solve" → ⊥) → (verb ≡ codes "compare" → ⊥)
+    → (verb ≡ codes "solve" → ⊥) → (verb ≡ codes "compare" → ⊥) → (verb ≡ codes "fleet" → ⊥)
     → Gives (without_options (plain_command verb names) settings) result → Gives (asked_by verb names settings) result
-without verb names settings result solves compares given =
-    rw (unequal verb (codes "solve") solves, unequal verb (codes "compare") compares) given
+without verb names settings result solves compares fleets given =
+    rw (unequal verb (codes "solve") solves, unequal verb (codes "compare") compares, unequal verb (codes "fleet") fleets) given

@@ -4,12 +4,12 @@ use Rattle.std.specs.Prelude.{true, false, Option, Some, None, codes}
 use Rattle.hyper_model.specs.declared.kinds.Measure.TheVariants.{Travel}
 use Rattle.hyper_model.specs.declared.kinds.Method.TheVariants.{Certificate, Elimination}
 use Rattle.report_text.specs.declared.ending.Widths.{Widths}
-use Rattle.command_words.specs.Command.{command, compare_of, finite_of, pairs_of, reach_of, replay_of, solve_of, sweep_of}
+use Rattle.command_words.specs.Command.{command, compare_of, finite_of, fleet_of, pairs_of, reach_of, replay_of, solve_of, sweep_of}
 use Rattle.command_words.specs.Limits.{limits_in}
 use Rattle.command_words.specs.Options.{options_of}
 use Rattle.command_words.specs.Plain.{file_with_number, file_with_options}
 use Rattle.command_words.specs.Arguments.{free_argument, lists_from, long_argument}
-use Rattle.command_words.specs.declared.command.Command.TheVariants.{Solve, Compare, Finite, Pairs, Sweep, Replay, Reach}
+use Rattle.command_words.specs.declared.command.Command.TheVariants.{Solve, Compare, Finite, Pairs, Sweep, Replay, Reach, Fleet}
 
 abbrev widths : Option ℕ → Option ℕ → Widths
 widths share time = record { share = share; time = time }
@@ -168,3 +168,24 @@ falling_limits = refl
 limits_with_workers : command (codes "reach" ∷ codes "a.csv" ∷ codes "480" ∷ codes "--workers=2" ∷ []) ≡ None
 unfolding lists_from free_argument long_argument reach_of limits_in
 limits_with_workers = refl
+
+fleet_alone : command (codes "fleet" ∷ codes "a.csv" ∷ []) ≡ Some (Fleet (codes "a.csv") (widths None None) false)
+unfolding lists_from free_argument long_argument options_of fleet_of file_with_options
+fleet_alone = refl
+
+fleet_with_its_options : command (codes "--time-width=5" ∷ codes "fleet" ∷ codes "a.csv" ∷ codes "--summary" ∷ codes "--width" ∷ codes "2" ∷ [])
+    ≡ Some (Fleet (codes "a.csv") (widths (Some 2) (Some 5)) true)
+unfolding lists_from free_argument long_argument options_of fleet_of file_with_options
+fleet_with_its_options = refl
+
+fleet_with_one_worker : command (codes "fleet" ∷ codes "a.csv" ∷ codes "--workers=1" ∷ []) ≡ None
+unfolding lists_from free_argument long_argument options_of fleet_of file_with_options
+fleet_with_one_worker = refl
+
+fleet_with_a_method : command (codes "fleet" ∷ codes "a.csv" ∷ codes "--method=certificate" ∷ []) ≡ None
+unfolding lists_from free_argument long_argument options_of fleet_of file_with_options
+fleet_with_a_method = refl
+
+fleet_of_width_one : command (codes "fleet" ∷ codes "a.csv" ∷ codes "--width=1" ∷ []) ≡ None
+unfolding lists_from free_argument long_argument options_of fleet_of file_with_options
+fleet_of_width_one = refl

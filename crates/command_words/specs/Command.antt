@@ -1,17 +1,18 @@
 -- The command that the arguments of the program give.
 use Rattle.std.specs.Prelude.{◌≡◌, ℕ, ◌≤◌, true, if◌then◌else◌, List, [], ◌∷◌, Option, Some, None, Result, Ok, Err, codes, find}
+use Rattle.std.specs.List.{list_all}
 use Rattle.std.specs.Str.{bytes_eq}
 use Rattle.hyper_model.specs.Measures.{is_of_region, word_of}
 use Rattle.hyper_model.specs.Plans.{IsBetween}
 use Rattle.hyper_model.specs.declared.kinds.Measure.{Measure}
 use Rattle.hyper_model.specs.declared.kinds.Measure.TheVariants as measure
 use Rattle.text_lines.specs.Numbers.{number_in}
-use Rattle.command_words.specs.Options.{◌>>=◌, AreWorkers}
+use Rattle.command_words.specs.Options.{◌>>=◌, AreWorkers, is_of_report}
 use Rattle.command_words.specs.Arguments.{lists_of}
 use Rattle.command_words.specs.Limits.{limits_in}
 use Rattle.command_words.specs.Plain.{file_with_number, file_with_options, name_in, unit_in}
 use Rattle.command_words.specs.declared.command.Command.{Command}
-use Rattle.command_words.specs.declared.command.Command.TheVariants.{Solve, Compare, Make, Finite, Pairs, Sweep, Replay, Reach}
+use Rattle.command_words.specs.declared.command.Command.TheVariants.{Solve, Compare, Make, Finite, Pairs, Sweep, Replay, Reach, Fleet}
 use Rattle.command_words.specs.declared.command.WordsEnd.{WordsEnd}
 use Rattle.command_words.specs.declared.command.WordsEnd.TheVariants as end
 use Rattle.command_words.specs.declared.options.Setting.{Setting}
@@ -30,6 +31,14 @@ unfoldable pub compare_of : List (List ℕ) → List Setting → Option Command
 compare_of names settings = do
   given ← file_with_options names settings
   if given.1.summary then None else Some (Compare given.0 given.1.widths given.1.workers given.1.method)
+
+-- one file, and the options of a report may be given
+unfoldable pub fleet_of : List (List ℕ) → List Setting → Option Command
+fleet_of names settings =
+    if list_all is_of_report settings then (do
+      given ← file_with_options names settings
+      Some (Fleet given.0 given.1.widths given.1.summary))
+    else None
 
 -- two numbers of 1 to 18 digits
 unfoldable pub make_of : List (List ℕ) → Option Command
@@ -104,6 +113,7 @@ abbrev pub asked_by : List ℕ → List (List ℕ) → List Setting → Option C
 asked_by verb names settings =
     if bytes_eq verb (codes "solve") then solve_of names settings
     else if bytes_eq verb (codes "compare") then compare_of names settings
+    else if bytes_eq verb (codes "fleet") then fleet_of names settings
     else without_options (plain_command verb names) settings
 
 abbrev pub with_plain : List (List ℕ) → List Setting → Option Command
@@ -135,3 +145,4 @@ NumbersInRange (Pairs file percent) = percent ≤ 100
 NumbersInRange (Sweep file unit m) = is_of_region m ≡ true
 NumbersInRange (Replay file day) = Unit {0}
 NumbersInRange (Reach file limits) = Unit {0}
+NumbersInRange (Fleet file widths summary) = Unit {0}

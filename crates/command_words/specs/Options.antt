@@ -58,6 +58,14 @@ number_once k settings = once (filter_map (number_of k) settings)
 abbrev pub method_once : List Setting → Option (Option Method)
 method_once settings = once (filter_map method_of settings)
 
+-- it says what a report shows or how wide its intervals may be, and not how it is found
+abbrev pub is_of_report : Setting → Bool
+is_of_report (setting.Width number) = true
+is_of_report (setting.TimeWidth number) = true
+is_of_report (setting.Workers number) = false
+is_of_report (setting.Method m) = false
+is_of_report setting.Summary = true
+
 abbrev pub is_summary : Setting → Bool
 is_summary setting.Summary = true
 is_summary s = false

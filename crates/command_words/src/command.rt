@@ -77,6 +77,15 @@ pub enum Command {
         /// Within how many seconds.
         limits: LimitList,
     },
+    /// Report the measures of a fleet whose crews stand at stations.
+    Fleet {
+        /// The fleet's file.
+        file: Name255,
+        /// How wide the report's intervals may be.
+        widths: Widths,
+        /// Whether only the measures of the whole region are reported.
+        summary: bool,
+    },
 }
 
 /// Why arguments gave no [`Command`].

@@ -1,4 +1,5 @@
 ghost use Rattle.std.specs.Prelude.{◌≡◌, ◌++◌, IsTrue, IfSome};
+ghost use Rattle.std.specs.List.{list_all};
 ghost use Rattle.std.specs.Option.{option_to_list};
 ghost use Rattle.command_words.specs.Options as spec;
 ghost use Rattle.command_words.specs.Options.{AreWorkers, once};
@@ -180,4 +181,20 @@ fn is_summary(setting: Setting) -> bool
     ensures { result ≡ spec.is_summary setting }
 {
     matches!(setting, Setting::Summary)
+}
+
+/// Whether all of the options say what a report shows and how wide its intervals may be, and none how it is found.
+pub(crate) fn are_of_report(settings: &[Setting]) -> bool
+    ensures { result ≡ list_all spec.is_of_report settings.now }
+{
+    settings.iter().all(|setting| is_of_report(*setting))
+}
+
+fn is_of_report(setting: Setting) -> bool
+    ensures { result ≡ spec.is_of_report setting }
+{
+    match setting {
+        Setting::Width(_) | Setting::TimeWidth(_) | Setting::Summary => true,
+        Setting::Workers(_) | Setting::Method(_) => false,
+    }
 }

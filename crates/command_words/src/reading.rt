@@ -3,12 +3,12 @@ ghost use Rattle.std.specs.Result.{IsErrOf};
 ghost use Rattle.std.specs.String.{string_bytes};
 ghost use Rattle.hyper_model.specs.Measures.{is_of_region};
 ghost use Rattle.command_words.specs.Command as spec;
-ghost use Rattle.command_words.specs.Command.{command, compare_of, finite_of, Gives, make_of, NumbersInRange, pairs_of, reach_of, replay_of, solve_of, sweep_of, with_plain};
+ghost use Rattle.command_words.specs.Command.{command, compare_of, finite_of, fleet_of, Gives, make_of, NumbersInRange, pairs_of, reach_of, replay_of, solve_of, sweep_of, with_plain};
 
 use crate::argument_lists::read_arguments;
 use crate::limits::read_limits;
 use crate::name::MOST_FILE_NAME_BYTES;
-use crate::options::Setting;
+use crate::options::{Setting, are_of_report};
 use crate::plain::{file_with_number, file_with_options, read_text};
 use crate::{Command, WordsEnd};
 use hyper_model::{MOST_NAME_BYTES, Measure};
@@ -74,6 +74,7 @@ fn asked_by(
     match verb {
         "solve" => solve(alloc, names, settings),
         "compare" => compare(alloc, names, settings),
+        "fleet" => fleet(alloc, names, settings),
         _ => without_options(alloc, verb, names, settings),
     }
 }
@@ -107,6 +108,22 @@ fn compare(alloc: Global, names: &[&str], settings: &[Setting]) -> Result<Comman
         widths: options.widths,
         workers: options.workers,
         method: options.method,
+    })
+}
+
+#[tactic(auto, unfolding(crate::specs::Command::fleet_of))]
+fn fleet(alloc: Global, names: &[&str], settings: &[Setting]) -> Result<Command, WordsEnd>
+    ensures given { Gives (fleet_of (map (λ name. name.now) names.now) settings.now) result }
+    ensures numbers { IfOk result NumbersInRange }
+{
+    if !are_of_report(settings) {
+        return Err(WordsEnd::NoCommand);
+    }
+    let (file, options) = file_with_options(alloc, names, settings)?;
+    Ok(Command::Fleet {
+        file,
+        widths: options.widths,
+        summary: options.summary,
     })
 }
 

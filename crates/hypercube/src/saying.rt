@@ -36,6 +36,9 @@ fn ending_of(outcome: Outcome, are_text: bool) -> Option<Ending> {
         Outcome::TooWide(place, measure, low, high) => {
             Some(Ending::TooWide(place, measure, low, high))
         }
+        Outcome::FleetTooWide(measure, low, high) => {
+            Some(Ending::FleetTooWide(measure, low, high))
+        }
         Outcome::Absent(_) => Some(Ending::Absent),
         Outcome::ReadFault => Some(Ending::ReadFault),
         Outcome::WriteFault => Some(Ending::WriteFault),

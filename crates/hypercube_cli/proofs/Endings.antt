@@ -88,6 +88,7 @@ own_cause answer outcome.Done own = tt
 own_cause answer outcome.Usage own = absurd own
 own_cause answer (outcome.Refused r) own = absurd own
 own_cause answer (outcome.TooWide place m lo hi) own = tt
+own_cause answer (outcome.FleetTooWide m lo hi) own = tt
 own_cause answer (outcome.Absent place) own = absurd own
 own_cause answer outcome.ReadFault own = absurd own
 own_cause answer outcome.WriteFault own = tt

@@ -5,5 +5,6 @@ pub mod PlanTasks
 pub mod TrueTexts
 pub mod TrueComparisons
 pub mod TrueReplays
+pub mod TrueFleets
 pub mod Faults
 pub mod Endings

@@ -1,4 +1,4 @@
--- What a command comes to that asks something of the plan in a file, by the plan that was read.
+-- What a command comes to that asks something of the text in a file, by what was read.
 use Rattle.std.proofs.Common.{◌≡◌, ℕ, List}
 use Rattle.std.specs.Prelude.{Option, Some, None, Result, Ok, Err, IfOk, IfSome}
 use Rattle.hyper_model.specs.Plans.{IsAccepted}
@@ -17,14 +17,14 @@ pub answers_from : {X : Type 0} (given : Result X Ending) (x : X) (ends : X → 
 answers_from given x ends (Ok ending) gives is = rw gives is
 answers_from given x ends (Err stopped) gives is = rw gives is
 
--- the ending of the plan that was read is one of the command
-pub plan_answers : (told : Option (List NamedText)) (file : List ℕ) (ends : PlanParts → Ending → Type 0) (p : PlanParts)
-    (result : Result Ending Stop) → IfSome told (λ texts. plan_at texts 1 file ≡ Ok p) → Answers (ends p) result
-    → IfSome told (λ texts. Answers (EndsFrom (plan_at texts 1 file) ends) result)
-plan_answers None file ends p result read is = tt
-plan_answers (Some texts) file ends p result read is = answers_from (plan_at texts 1 file) p ends result read is
+-- the ending of what was read is one of the command
+pub read_answers : {X : Type 0} (told : Option (List NamedText)) (given : List NamedText → Result X Ending)
+    (ends : X → Ending → Type 0) (x : X) (result : Result Ending Stop) → IfSome told (λ texts. given texts ≡ Ok x)
+    → Answers (ends x) result → IfSome told (λ texts. Answers (EndsFrom (given texts) ends) result)
+read_answers None given ends x result read is = tt
+read_answers (Some texts) given ends x result read is = answers_from (given texts) x ends result read is
 
--- and what is proved of it is proved of the text in the file
+-- what is proved of the plan that was read is proved of the text in the file
 pub plan_proved : (told : Option (List NamedText)) (file : List ℕ) (proves : PlanParts → List ℕ → Type 0) (p : PlanParts)
     (result : Result Ending Stop) → IfSome told (λ texts. plan_at texts 1 file ≡ Ok p) → IsAccepted p
     → IfOk result (λ ending. ending.outcome ≡ outcome.Done → proves p ending.text)

@@ -18,7 +18,7 @@ found_next : {X : Type 0} (P : X → Type 0) (b : Bool) (y x : X) (rest : Option
 found_next P true y x rest here later is = let same : y ≡ x = cc in subst P same here
 found_next P false y x rest here later is = later is
 
-found_holds : {X : Type 0} (P : X → Type 0) (test : X → Bool) (xs : List X) (x : X) → All P xs → find test xs ≡ Some x → P x
+pub found_holds : {X : Type 0} (P : X → Type 0) (test : X → Bool) (xs : List X) (x : X) → All P xs → find test xs ≡ Some x → P x
 found_holds P test [] x all is = absurd (cc)
 found_holds P test (y ∷ ys) x all is =
     found_next P (test y) y x (find test ys) (All-head P y ys all) (found_holds P test ys x (All-tail P y ys all)) is

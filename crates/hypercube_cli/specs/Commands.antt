@@ -6,6 +6,7 @@ use Rattle.hypercube_cli.specs.Endings.{usage_ending}
 use Rattle.hypercube_cli.specs.Meanings.{Meaning}
 use Rattle.hypercube_cli.specs.Tasks.Comparisons.{compare_meaning}
 use Rattle.hypercube_cli.specs.Tasks.FiniteLines.{finite_meaning}
+use Rattle.hypercube_cli.specs.Tasks.Fleets.{fleet_meaning}
 use Rattle.hypercube_cli.specs.Tasks.MadePlans.{make_meaning}
 use Rattle.hypercube_cli.specs.Tasks.PairedCalls.{pairs_meaning}
 use Rattle.hypercube_cli.specs.Tasks.ReachedCalls.{reach_meaning}
@@ -32,3 +33,4 @@ meaning_of (Some (command.Pairs file percent)) = pairs_meaning file percent
 meaning_of (Some (command.Sweep file unit m)) = sweep_meaning file unit m
 meaning_of (Some (command.Replay file day)) = replay_meaning file day
 meaning_of (Some (command.Reach file limits)) = reach_meaning file limits
+meaning_of (Some (command.Fleet file widths summary)) = fleet_meaning file widths summary

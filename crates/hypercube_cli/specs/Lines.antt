@@ -1,8 +1,6 @@
 -- The single lines that stand in place of a text: a refusal, and a measure that is too wide.
 use Rattle.std.specs.Prelude.{ℕ, List, [], ◌++◌, Option, Some, None, codes}
 use Rattle.std.specs.List.{flat_map}
-use Rattle.hyper_model.specs.declared.kinds.Measure.{Measure}
-use Rattle.hyper_model.specs.Measures.{scale_of}
 use Rattle.text_lines.specs.Fields.{number_field, text_field}
 use Rattle.text_lines.specs.Fractions.{ends_bytes}
 use Rattle.hypercube_cli.specs.Refusals.{fields_of}
@@ -21,7 +19,7 @@ fields_line fields =
 abbrev pub refusal_line : Refusal → List ℕ
 refusal_line r = fields_line (fields_of r)
 
--- a measure of the plan at this place, by the fields of its line, with the ends that lie too far apart
-abbrev pub wide_line : List ℕ → ℕ → Measure → ℕ → ℕ → List ℕ
-wide_line label place m lo hi =
-    codes "toowide" ++ number_field place ++ text_field label ++ codes "," ++ ends_bytes lo hi (scale_of m) ++ codes "\n"
+-- a measure of the text at this place, by the fields of its line, with the ends that lie too far apart, in digits of this scale
+abbrev pub wide_line : List ℕ → ℕ → ℕ → ℕ → ℕ → List ℕ
+wide_line label place scale lo hi =
+    codes "toowide" ++ number_field place ++ text_field label ++ codes "," ++ ends_bytes lo hi scale ++ codes "\n"

@@ -8,6 +8,7 @@ status_of outcome.Done = 0
 status_of outcome.Usage = 1
 status_of (outcome.Refused refusal) = 2
 status_of (outcome.TooWide place m lo hi) = 3
+status_of (outcome.FleetTooWide m lo hi) = 3
 status_of (outcome.Absent place) = 4
 status_of outcome.ReadFault = 5
 status_of outcome.WriteFault = 6

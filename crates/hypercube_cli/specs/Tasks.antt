@@ -7,3 +7,5 @@ pub mod PairedCalls
 pub mod SweptSites
 pub mod ReplayedDays
 pub mod ReachedCalls
+pub mod TrueFleets
+pub mod Fleets

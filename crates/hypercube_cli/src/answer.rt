@@ -1,7 +1,11 @@
 ghost use Rattle.std.specs.Prelude.{◌≡◌, IfOk};
-ghost use Rattle.hypercube_cli.specs.Endings.{IsOwn, done_ending, wide_ending};
+ghost use Rattle.hypercube_cli.specs.Endings.{IsOwn, done_ending, wide_ending, wide_fleet_ending};
+ghost use Rattle.hypercube_cli.specs.Lines.{wide_line};
+ghost use Rattle.text_lines.specs.Fractions.{IsScale};
 
 use crate::Outcome;
+use fleet_measures::FleetMeasure;
+use fleet_text::fleet_scale;
 use hyper_model::{Measure, scale};
 use std::alloc::{AllocError, Global};
 use std::marker::Model;
@@ -47,15 +51,25 @@ impl Answer {
     ) -> Result<Answer, AllocError>
         ensures { IfOk result (λ answer. answer ≡ wide_ending label.now place measure low high) }
     {
-        let mut text = Vec::from_slice(alloc, b"toowide")?;
-        push_number_field(&mut text, u64::from(place))?;
-        push_text_field(&mut text, label)?;
-        text.push(b',')?;
-        push_ends(&mut text, low, high, scale(measure))?;
-        text.push(b'\n')?;
         Ok(Answer {
             outcome: Outcome::TooWide(place, measure, low, high),
-            text,
+            text: wide_text(alloc, label, place, scale(measure), low, high)?,
+        })
+    }
+
+    /// The same of a measure of the fleet.
+    pub fn of_wide_fleet(
+        alloc: Global,
+        label: &[u8],
+        measure: FleetMeasure,
+        low: u64,
+        high: u64,
+    ) -> Result<Answer, AllocError>
+        ensures { IfOk result (λ answer. answer ≡ wide_fleet_ending label.now measure low high) }
+    {
+        Ok(Answer {
+            outcome: Outcome::FleetTooWide(measure, low, high),
+            text: wide_text(alloc, label, 1, fleet_scale(measure), low, high)?,
         })
     }
 
@@ -73,4 +87,25 @@ impl Answer {
     {
         &self.text
     }
+}
+
+/// The line of a measure whose ends lie too far apart, in digits of this scale.
+fn wide_text(
+    alloc: Global,
+    label: &[u8],
+    place: u32,
+    scale: u32,
+    low: u64,
+    high: u64,
+) -> Result<Vec<u8>, AllocError>
+    requires { IsScale scale }
+    ensures { IfOk result (λ text. text.items ≡ wide_line label.now place scale low high) }
+{
+    let mut text = Vec::from_slice(alloc, b"toowide")?;
+    push_number_field(&mut text, u64::from(place))?;
+    push_text_field(&mut text, label)?;
+    text.push(b',')?;
+    push_ends(&mut text, low, high, scale)?;
+    text.push(b'\n')?;
+    Ok(text)
 }

@@ -2,6 +2,7 @@ ghost use Rattle.std.specs.Prelude.{◌≡◌};
 ghost use Rattle.hypercube_cli.specs.Outcomes.{status_of};
 
 use crate::Refusal;
+use fleet_measures::FleetMeasure;
 use hyper_model::Measure;
 
 /// How a run ended.
@@ -16,6 +17,8 @@ pub enum Outcome {
     /// Of the plan at this place, this measure has a low and a high end, in units of its last printed digit, that lie
     /// further apart than was asked, and the line that says so was written.
     TooWide(u32, Measure, u64, u64),
+    /// Of the fleet, this measure has such ends, and the line that says so was written.
+    FleetTooWide(FleetMeasure, u64, u64),
     /// There is no text of the name that the command asks for at this place, 0 for a study and from 1 on for plans, and
     /// nothing was written.
     Absent(u32),
@@ -35,7 +38,7 @@ pub fn status(outcome: &Outcome) -> u8
         Outcome::Done => 0,
         Outcome::Usage => 1,
         Outcome::Refused(_) => 2,
-        Outcome::TooWide(_, _, _, _) => 3,
+        Outcome::TooWide(_, _, _, _) | Outcome::FleetTooWide(_, _, _) => 3,
         Outcome::Absent(_) => 4,
         Outcome::ReadFault => 5,
         Outcome::WriteFault => 6,

@@ -5,7 +5,7 @@ use finite_line::FiniteRefusal;
 use pair_dispatch::PairRefusal;
 use plan_compare::StudyRefusal;
 use plan_maker::MakeRefusal;
-use plan_reader::PlanRefusal;
+use plan_reader::{FleetRefusal, PlanRefusal};
 use site_sweep::SweepRefusal;
 use text_lines::RefusalCode;
 
@@ -26,6 +26,8 @@ pub enum Refusal {
     Sweep(SweepRefusal),
     /// The recorded day, at place 2.
     Day(DayRefusal),
+    /// The fleet, at place 1.
+    Fleet(FleetRefusal),
 }
 
 /// What the text line of a refusal says.
@@ -52,6 +54,7 @@ impl Refusal {
             Refusal::Pair(plan) => (1, plan.code()),
             Refusal::Sweep(unit) => (1, unit.code()),
             Refusal::Day(day) => (2, day.code()),
+            Refusal::Fleet(fleet) => (1, fleet.code()),
         };
         RefusalFields { place, code }
     }

@@ -12,6 +12,7 @@ ghost use Rattle.hypercube_cli.specs.Untouched.{IsUntouched};
 
 mod compare;
 mod finite;
+mod fleet;
 mod make;
 mod pairs;
 mod plan_task;
@@ -26,6 +27,7 @@ use crate::stop::Stop;
 use command_words::Command;
 use compare::Compare;
 use finite::Finite;
+use fleet::FleetReport;
 use hyper_model::{Enclosures, Method, Plan};
 use make::Make;
 use outer_world::Shelf;
@@ -148,6 +150,16 @@ impl Task for Job {
                 let task = Reach { limits };
                 OfPlan { file, task }.answer(alloc, shelf, enclose)
             }
+            Command::Fleet {
+                file,
+                widths,
+                summary,
+            } => FleetReport {
+                file,
+                widths,
+                summary,
+            }
+            .answer(alloc, shelf, enclose),
         }
     }
 }

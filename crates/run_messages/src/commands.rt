@@ -198,6 +198,13 @@ pub(crate) const COMMANDS: &[CommandForm] = &[
         operands: &[Operand::File("plan"), Operand::Limits],
         options: &[],
     },
+    CommandForm {
+        word: "fleet",
+        pattern: "fleet FLEET",
+        about: "all measures of a fleet: up to 200 crews, alike at each of up to twelve stations",
+        operands: &[Operand::File("fleet")],
+        options: &["--width", "--time-width", "--summary"],
+    },
 ];
 
 /// All options, in the order of the help.
@@ -217,26 +224,26 @@ pub(crate) const OPTIONS: &[OptionForm] = &[
     OptionForm {
         name: "--workers",
         pattern: "--workers N",
-        about: "how many processors share the work: 1 to 16; default: 1",
+        about: "not for fleet: how many processors share the work, 1 to 16; default: 1",
         value: Some(OptionValue::Number(&WORKERS)),
     },
     OptionForm {
         name: "--summary",
         pattern: "--summary",
-        about: "solve only: the measures of the whole region; default: all measures",
+        about: "not for compare: only the measures of the whole region; default: all measures",
         value: None,
     },
     OptionForm {
         name: "--method",
         pattern: "--method METHOD",
-        about: "how intervals are found: elimination or certificate; default: elimination",
+        about: "not for fleet: how intervals are found, elimination or certificate; default: elimination",
         value: Some(OptionValue::Method),
     },
 ];
 
 /// The words of all commands.
 pub(crate) const COMMAND_WORDS: &[&str] = &[
-    "solve", "compare", "make", "finite", "pairs", "sweep", "replay", "reach",
+    "solve", "compare", "make", "finite", "pairs", "sweep", "replay", "reach", "fleet",
 ];
 
 /// The names of all options, and the two words that ask for help.

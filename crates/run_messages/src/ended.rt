@@ -1,3 +1,4 @@
+use fleet_measures::FleetMeasure;
 use hyper_model::Measure;
 use text_lines::RefusalCode;
 
@@ -13,6 +14,8 @@ pub enum Ending {
     /// Of the plan at this place, this measure has a low and a high end, in units of its last printed digit, that lie
     /// further apart than was asked.
     TooWide(u32, Measure, u64, u64),
+    /// Of the fleet, this measure has such ends.
+    FleetTooWide(FleetMeasure, u64, u64),
     /// There is no file of the name that was asked for last.
     Absent,
     /// The file that was asked for last was not read.

@@ -37,13 +37,18 @@ fn odd_field(row: &Row<'_>) -> usize {
 }
 
 /// A record of no known kind.
-pub(crate) fn unknown_kind(alloc: Global, rows: &Rows, record: u64) -> Result<String, Unsaid> {
+pub(crate) fn unknown_kind(
+    alloc: Global,
+    rows: &Rows,
+    record: u64,
+    is_fleet: bool,
+) -> Result<String, Unsaid> {
     let found = rows.record(record)?;
     let at = found.at();
     let row = found.row();
     let word = row.field(0);
     let kind = Quoted(word);
-    if let Some(advice) = separator_advice(word) {
+    if let Some(advice) = added_advice(word, is_fleet).or(separator_advice(word)) {
         return Ok(format!(in alloc; ", {at}: {kind} is no kind of record. {advice}")?);
     }
     if let Some(near) = nearest_word(word, KINDS) {
@@ -51,15 +56,28 @@ pub(crate) fn unknown_kind(alloc: Global, rows: &Rows, record: u64) -> Result<St
             ", {at}: {kind} is no kind of record. Write {near}, in small letters."
         )?);
     }
-    let advice = kind_advice(rows, at);
-    Ok(format!(in alloc; ", {at}: {kind} is no kind of record. {advice}")?)
+    let heading = heading_advice(rows, at);
+    let added = if is_fleet { "crews" } else { "group" };
+    Ok(format!(in alloc;
+        ", {at}: {kind} is no kind of record. {heading}A record begins with version, line, rule, period, unit, \
+atom, travel, at, prefer, {added} or note."
+    )?)
+}
+
+/// What helps if a kind is known only after a version, in the texts of other commands or of this one.
+fn added_advice(word: &[u8], is_fleet: bool) -> Option<&'static str> {
+    match (word, is_fleet) {
+        (b"group", false) => Some("Groups are known only after a record version,2: put it first."),
+        (b"group", true) => Some("A fleet has no groups: list its stations by prefer."),
+        (b"crews", false) => Some("Crews are known only to the command fleet."),
+        (b"crews", true) => Some("Crews are known only after a record version,3: put it first."),
+        _ => None,
+    }
 }
 
 /// What helps if a kind has more than a kind in it.
 fn separator_advice(word: &[u8]) -> Option<&'static str> {
-    if word == b"group".as_slice() {
-        Some("Groups are known only after a record version,2: put it first.")
-    } else if word.contains(&0) {
+    if word.contains(&0) {
         Some("The file seems to be in UTF-16: save it as UTF-8.")
     } else if word.contains(&b';') {
         Some("Semicolons do not separate fields: save the file with commas.")
@@ -72,14 +90,13 @@ fn separator_advice(word: &[u8]) -> Option<&'static str> {
     }
 }
 
-/// What helps if a word is like no kind: in the first record it may be a heading.
-fn kind_advice(rows: &Rows, at: At) -> &'static str {
+/// What helps first if a word is like no kind: in the first record it may be a heading.
+fn heading_advice(rows: &Rows, at: At) -> &'static str {
     let is_first = rows.items().first().is_some_and(|item| item.at() == at);
     if is_first {
-        "If it is a row of headings, take it out, or write note, in front of it. A record begins with version, line, rule, \
-period, unit, atom, travel, at, prefer, group or note."
+        "If it is a row of headings, take it out, or write note, in front of it. "
     } else {
-        "A record begins with version, line, rule, period, unit, atom, travel, at, prefer, group or note."
+        ""
     }
 }
 

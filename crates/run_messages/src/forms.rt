@@ -32,7 +32,8 @@ pub(crate) struct Form {
 
 /// The words that may begin a record.
 pub(crate) const KINDS: &[&str] = &[
-    "version", "line", "rule", "period", "unit", "atom", "travel", "at", "prefer", "group", "note",
+    "version", "line", "rule", "period", "unit", "atom", "travel", "at", "prefer", "group",
+    "crews", "note",
 ];
 
 const VERSION: Quantity = Quantity {
@@ -91,6 +92,13 @@ const THOUSANDTHS: Quantity = Quantity {
     least: 1,
     most: 1000,
     advice: "Write thousandths: 1000 for all of its time, 500 for half. Leave out what is 0.",
+};
+
+const CREWS: Quantity = Quantity {
+    word: "number of crews",
+    least: 1,
+    most: 200,
+    advice: "Write how many crews the station has. Leave out a station without crews.",
 };
 
 const FORMS: &[Form] = &[
@@ -157,6 +165,11 @@ const FORMS: &[Form] = &[
         kind: "group",
         pattern: "group,ATOM,UNIT,UNIT.. with one to twelve units",
         fields: &[Field::Name("atom"), Field::Name("unit")],
+    },
+    Form {
+        kind: "crews",
+        pattern: "crews,UNIT,COUNT",
+        fields: &[Field::Name("unit"), Field::Number(&CREWS)],
     },
 ];
 

@@ -7,7 +7,7 @@ pub(crate) fn help(alloc: Global) -> Result<String, AllocError> {
     for command in COMMANDS {
         push_row(&mut text, command.pattern, command.about)?;
     }
-    text.push_str("Options of solve and compare, in any place:\n")?;
+    text.push_str("Options of solve, compare and fleet, in any place:\n")?;
     for option in OPTIONS {
         push_row(&mut text, option.pattern, option.about)?;
     }

@@ -10,6 +10,7 @@ mod commands;
 mod day_faults;
 mod ended;
 mod endings;
+mod fleet_faults;
 mod form_faults;
 mod forms;
 mod grouped;
@@ -32,6 +33,7 @@ mod travel_faults;
 mod unsaid;
 mod usage;
 mod version;
+mod wide;
 
 pub use ended::{Ended, Ending};
 pub use kept::{KeepingShelf, Kept};

@@ -1,11 +1,12 @@
 use crate::ended::{Ended, Ending};
-use crate::endings::{NO_MEMORY, UNWRITTEN, absent, constant, too_wide, unread};
+use crate::endings::{NO_MEMORY, UNWRITTEN, absent, constant, unread};
 use crate::help::help;
 use crate::kept::Kept;
 use crate::refusals::refusal;
 use crate::unsaid::Unsaid;
 use crate::usage::usage_fault;
 use crate::version::PROVED_WITH;
+use crate::wide::{fleet_too_wide, too_wide};
 use std::alloc::{AllocError, Global};
 
 /// What is said of a run that is over, in lines of standard error.
@@ -18,6 +19,9 @@ pub fn message(alloc: Global, ended: &Ended<'_>, kept: &Kept) -> Result<String, 
         Ending::Refused(_, code) => Ok(refusal(alloc, ended, kept, code)?),
         Ending::TooWide(place, measure, low, high) => {
             too_wide(alloc, kept, place, measure, (low, high))
+        }
+        Ending::FleetTooWide(measure, low, high) => {
+            fleet_too_wide(alloc, kept, measure, (low, high))
         }
         Ending::Absent => absent(alloc, kept),
         Ending::ReadFault => unread(alloc, kept),

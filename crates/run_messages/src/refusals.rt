@@ -4,8 +4,8 @@ use crate::quoted::FileName;
 use crate::rows::Rows;
 use crate::unsaid::Unsaid;
 use crate::{
-    command_faults, day_faults, form_faults, list_faults, location_faults, name_faults,
-    setting_faults, study_faults, travel_faults,
+    command_faults, day_faults, fleet_faults, form_faults, list_faults, location_faults,
+    name_faults, setting_faults, study_faults, travel_faults,
 };
 use std::alloc::{AllocError, Global};
 use text_lines::RefusalCode;
@@ -73,24 +73,29 @@ fn text_fault(
     let [first, second] = code.arguments;
     let pair = (first.unwrap_or(0), second.unwrap_or(0));
     match code.number {
-        0..=9 => form_fault(alloc, &rows, code.number, pair),
+        0..=9 => form_fault(alloc, ended, &rows, code.number, pair),
         10..=19 => name_fault(alloc, &rows, code.number, pair),
         20..=43 => table_fault(alloc, &rows, code.number, pair),
-        50..=52 => setting_fault(alloc, &rows, code.number, pair),
+        50..=52 => setting_fault(alloc, ended, &rows, code.number, pair),
         80..=85 => command_fault(alloc, ended, &rows, code.number, pair.0),
+        100..=103 => fleet_fault(alloc, &rows, code.number, pair.0),
         _ => day_fault(alloc, kept, &rows, code.number, pair.0),
     }
 }
 
 fn form_fault(
     alloc: Global,
+    ended: &Ended<'_>,
     rows: &Rows,
     number: u32,
     (first, second): (u64, u64),
 ) -> Result<String, Unsaid> {
     match number {
         1 => form_faults::not_utf8(alloc, rows, first),
-        3 => form_faults::unknown_kind(alloc, rows, first),
+        3 => {
+            let is_fleet = fleet_faults::is_fleet(alloc, ended.arguments)?;
+            form_faults::unknown_kind(alloc, rows, first, is_fleet)
+        }
         4 => form_faults::field_count(alloc, rows, first),
         5 => form_faults::bad_number(alloc, rows, first, second),
         6 => form_faults::bad_name(alloc, rows, first, second),
@@ -141,14 +146,25 @@ fn table_fault(
 
 fn setting_fault(
     alloc: Global,
+    ended: &Ended<'_>,
     rows: &Rows,
     number: u32,
-    (first, second): (u64, u64),
+    pair: (u64, u64),
 ) -> Result<String, Unsaid> {
+    let is_fleet = fleet_faults::is_fleet(alloc, ended.arguments)?;
     match number {
-        50 => setting_faults::unknown_version(alloc, rows, first),
-        51 => setting_faults::setting_twice(alloc, rows, first),
-        _ => setting_faults::not_stable(alloc, rows, first, second),
+        50 => setting_faults::unknown_version(alloc, rows, pair.0, is_fleet),
+        51 => setting_faults::setting_twice(alloc, rows, pair.0),
+        _ => setting_faults::not_stable(alloc, rows, pair, is_fleet),
+    }
+}
+
+fn fleet_fault(alloc: Global, rows: &Rows, number: u32, first: u64) -> Result<String, Unsaid> {
+    match number {
+        100 => fleet_faults::crews_twice(alloc, rows, first),
+        101 => fleet_faults::too_many_crews(alloc, first),
+        102 => fleet_faults::too_many_states(alloc, first),
+        _ => fleet_faults::too_much_service(alloc, first),
     }
 }
 

@@ -29,3 +29,7 @@ returns-in-Replay-clause-proved g c = proved_as (g.S.Shelf.told c.args.shelf.now
 pub returns-in-Reach-clause-proved : goal.returns-in-Reach-clause-proved
 unfolding meaning_of
 returns-in-Reach-clause-proved g c = proved_as (g.S.Shelf.told c.args.shelf.now) c.answer-in-Reach.result c.in-Reach.is c.answer-in-Reach.ensures.proved
+
+pub returns-in-Fleet-clause-proved : goal.returns-in-Fleet-clause-proved
+unfolding meaning_of
+returns-in-Fleet-clause-proved g c = proved_as (g.S.Shelf.told c.args.shelf.now) c.answer-in-Fleet.result c.in-Fleet.is c.answer-in-Fleet.ensures.proved
