@@ -41,7 +41,7 @@ fn erlang_of_eleven_units(rt: HostRuntime) -> Result<(), Fail> {
 }
 
 /// The worked plans of at most seven units.
-const WORKED: [&str; 18] = [
+pub(crate) const WORKED: [&str; 18] = [
     HALF_LOAD,
     THIRD_LOAD,
     THIRD_LOAD_WITH_A_QUEUE,
@@ -84,7 +84,7 @@ fn overlap(first: &Enclosures, second: &Enclosures) -> bool {
     true
 }
 
-fn overlaps(first: Enclosed, second: Enclosed) -> bool {
+pub(crate) fn overlaps(first: Enclosed, second: Enclosed) -> bool {
     first.measure == second.measure && meet(first.found, second.found)
 }
 

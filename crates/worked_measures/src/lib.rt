@@ -6,6 +6,8 @@ mod by_hand;
 #[cfg(test)]
 mod certified;
 #[cfg(test)]
+mod fleets;
+#[cfg(test)]
 mod pairs;
 #[cfg(test)]
 mod plans;

@@ -2,6 +2,7 @@ use crate::cases::{run, run_with_faults};
 use crate::commands::USAGE;
 use crate::days::{DAY, TWO_UNITS_PLAYED};
 use crate::finite::HALF_LOAD_ONE_PLACE;
+use crate::fleets::HALF_LOAD_AS_A_FLEET;
 use crate::pairs::TWO_UNITS_ALL;
 use crate::reports::{HALF_LOAD_REPORT, MADE_PLAN};
 use crate::shelves::words_of;
@@ -14,7 +15,7 @@ use hypercube_cli::{Outcome, Refusal, hypercube};
 use outer_world::{FileShelf, StdoutSink};
 use pair_dispatch::PairRefusal;
 use plan_compare::StudyRefusal;
-use plan_reader::PlanRefusal;
+use plan_reader::{FleetRefusal, PlanRefusal};
 use rate_matrix::OpenGate;
 use site_sweep::SweepRefusal;
 use std::alloc::Global;
@@ -126,6 +127,22 @@ const COMMANDS: &[Command] = &[
         writes: 1,
         outcome: Outcome::Refused(Refusal::Day(DayRefusal::NotBusy(1))),
         written: "refused,2,95,1\n",
+    },
+    Command {
+        line: "fleet a.csv",
+        text: HALF_LOAD,
+        reads: 9,
+        writes: 5,
+        outcome: Outcome::Done,
+        written: HALF_LOAD_AS_A_FLEET,
+    },
+    Command {
+        line: "fleet a.csv",
+        text: "station,A\n",
+        reads: 3,
+        writes: 1,
+        outcome: Outcome::Refused(Refusal::Fleet(FleetRefusal::Plan(PlanRefusal::UnknownKind(1)))),
+        written: "refused,1,3,1\n",
     },
     Command {
         line: "solve a.csv",

@@ -12,6 +12,8 @@ mod faults;
 #[cfg(test)]
 mod finite;
 #[cfg(test)]
+mod fleets;
+#[cfg(test)]
 mod hostile;
 #[cfg(test)]
 mod in_step;

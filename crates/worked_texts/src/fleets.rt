@@ -1,7 +1,6 @@
 use crate::pieces::*;
-use fleet_reader::FleetRefusal::{self, *};
-use fleet_reader::read_fleet;
-use plan_reader::{PlanRefusal, read_plan};
+use plan_reader::FleetRefusal::{self, *};
+use plan_reader::{PlanRefusal, read_fleet, read_plan};
 use std::alloc::{AllocError, Global};
 use std::test::Fail;
 
