@@ -1,7 +1,7 @@
 #!/usr/bin/env python3
-"""Says all faults of a plan that can be told at once: python3 scripts/faults.py PROGRAM PLAN
+"""Says all faults of a plan or a fleet that can be told at once: python3 scripts/faults.py PROGRAM PLAN
 
-The program says the first fault of a text. This script makes a note of the record in which it stands, so that no other record
+A text with a record version,3 is a fleet. The program says the first fault of a text. This script makes a note of the record in which it stands, so that no other record
 gets another number or line, and runs the program again. So every record with a wrong form is found. Which names are unknown and
 what stands twice is judged after that, unless a record of a unit or an atom had to be taken out, since others would then name
 what is not there; and what the whole plan lacks only if nothing was taken out.
@@ -19,15 +19,21 @@ REFUSED = 2
 # The refusals of one record by its form, which say nothing of any other record.
 FORM_REFUSALS = range(1, 7)
 # The refusals that say in which record the fault stands, whose record may then be taken out.
-RECORD_REFUSALS = {*FORM_REFUSALS, 10, 11, 12, 13, 14, 20, 30, 42, 43, 50, 51} - {2}
+RECORD_REFUSALS = {*FORM_REFUSALS, 10, 11, 12, 13, 14, 20, 30, 42, 43, 50, 51, 100} - {2}
 NAMING_KINDS = (b"unit", b"atom")
+FLEET_VERSION = re.compile(rb'^[\xef\xbb\xbf \t"]*version[ \t"]*,[ \t"]*0*3[ \t"]*[,\r\n]', re.MULTILINE)
 
 
-def first_fault(program, text):
+def command_for(text):
+    """The command that reads such a text."""
+    return "fleet" if FLEET_VERSION.search(text + b"\n") else "solve"
+
+
+def first_fault(program, command, text):
     """The status of a run on this text, the number of its refusal, and what it says in which line."""
     with tempfile.TemporaryDirectory() as folder:
         (pathlib.Path(folder) / "plan").write_bytes(text)
-        end = subprocess.run([program, "solve", "plan", "--summary"], cwd=folder, capture_output=True, stdin=subprocess.DEVNULL)
+        end = subprocess.run([program, command, "plan", "--summary"], cwd=folder, capture_output=True, stdin=subprocess.DEVNULL)
     refused = re.match(rb"refused,1,(\d+)", end.stdout)
     said = end.stderr.decode(errors="replace").removeprefix("hypercube: plan")
     line = re.match(r", record \d+ \(line (\d+)\)", said)
@@ -52,9 +58,9 @@ def is_naming(line, said):
 
 def faults(program, text):
     """What is said of each fault, and the status."""
-    taken_out, names_taken = False, False
+    command, taken_out, names_taken = command_for(text), False, False
     for _ in range(MOST_FAULTS):
-        ended, number, said, line = first_fault(program, text)
+        ended, number, said, line = first_fault(program, command, text)
         if ended != REFUSED:
             return REFUSED if taken_out else ended
         if names_taken and number not in FORM_REFUSALS or taken_out and number not in RECORD_REFUSALS:

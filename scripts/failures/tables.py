@@ -11,6 +11,14 @@ USAGE = (b"usage: hypercube solve FILE | compare STUDY | make UNITS NUMBER | fin
          b" | sweep FILE UNIT MEASURE | replay FILE DAY [--width W] [--time-width W] [--workers N] [--summary]\n")
 
 
+def rarely_sent(stations):
+    """A fleet of so many stations at one point, with so few calls that the last one is hardly ever sent."""
+    names = [f"S{number}" for number in range(1, stations + 1)]
+    rows = ["version,3", *(f"unit,{name},{1_000_000 // stations}\nat,{name},P,1000" for name in names)]
+    rows += ["atom,P,1,0,0,S1", "travel,P,P,300", f"prefer,P,{','.join(names)}"]
+    return "\n".join(rows) + "\n"
+
+
 def street(atoms):
     """A plan of two units and so many atoms along a street."""
     places = range(1, atoms + 1)
@@ -28,6 +36,11 @@ FILES = {
     "wide.csv": "unit,A,300000\nunit,B,300000\nunit,C,300000\natom,P,1,0,0,A\ntravel,P,P,300\nat,A,P,1000\nat,B,P,1000\n"
                 "at,C,P,1000\nprefer,P,A,B,C\n",
     "group.csv": "version,2\nunit,A,3\nunit,B,3\natom,P,1,0,0,A\ntravel,P,P,60\nat,A,P,1000\nat,B,P,1000\ngroup,P,A,B\n",
+    "fleet.csv": "version,3\ncrews,A,3\nunit,A,3\nunit,B,3\natom,P,1,0,0,A\natom,Q,1,9,0,B\ntravel,P,P,60\ntravel,P,Q,300\n"
+                 "travel,Q,P,300\ntravel,Q,Q,60\nat,A,P,1000\nat,B,Q,1000\nprefer,P,A,B\nprefer,Q,B,A\n",
+    "crowd.csv": "version,3\ncrews,A,101\ncrews,B,100\nunit,A,3\nunit,B,3\natom,P,1,0,0,A\ntravel,P,P,60\nat,A,P,1000\n"
+                 "at,B,P,1000\nprefer,P,A,B\n",
+    "rare.csv": rarely_sent(5),
     "street.csv": street(20),
     "wrong.csv": "Unit,A,2\n",
     "day.csv": "call,0,P\ncall,10,P\ncall,20,Q\nfree,30,A\ncall,40,Q\nfree,50,B\n",
@@ -60,6 +73,10 @@ MEMORY_RUNS = (
     ("solve two.csv --method certificate", 2000),
     ("solve queue.csv --method certificate", 400),
     ("compare both.toml --method certificate", 2000),
+    ("fleet fleet.csv", 2000),
+    ("fleet queue.csv", 400),
+    ("fleet crowd.csv", 400),
+    ("fleet rare.csv --time-width 2", 2000),
     ("make 10 7", 400),
     (f"compare {STUDY}", 400),
     ("solve two.csv --workers 4", 400),
@@ -71,10 +88,11 @@ MEMORY_RUNS = (
 )
 READING_RUNS = ("solve two.csv", "solve queue.csv", "compare both.toml", "compare twice.toml", f"compare {STUDY}",
                 "finite two.csv 2", "pairs two.csv 50", "sweep two.csv B travel", "replay two.csv day.csv",
-                "reach two.csv 60,300", "solve two.csv --method certificate", "compare both.toml --method certificate")
+                "reach two.csv 60,300", "solve two.csv --method certificate", "compare both.toml --method certificate",
+                "fleet fleet.csv")
 WRITING_RUNS = ("solve two.csv", "compare both.toml", "make 2 7", "finite two.csv 2", "pairs two.csv 50",
                 "sweep two.csv B travel", "replay two.csv day.csv", "reach two.csv 60,300", "solve two.csv --method certificate",
-                "solve wrong.csv", "solve wide.csv --time-width 2", "")
+                "fleet fleet.csv", "solve wrong.csv", "solve wide.csv --time-width 2", "fleet rare.csv --time-width 2", "")
 # A run by one worker, and a run that has to write the same with threads. A sweep has as many as there are processors.
 THREAD_RUNS = (
     *((line, f"{line} --workers {workers}")
@@ -127,6 +145,14 @@ PLACES = (
     (["reach", "gone.csv", "1"], "absent", b""),
     (["reach", "wrong.csv", "1"], "refused", b"refused,1,3,1\n"),
     (["reach", "/dev/zero", "1"], "refused", b"refused,1,2,4194305\n"),
+    (["fleet", "folder"], "unread", b""),
+    (["fleet", "gone.csv"], "absent", b""),
+    (["fleet", "wrong.csv"], "refused", b"refused,1,3,1\n"),
+    (["fleet", "group.csv"], "refused", b"refused,1,3,8\n"),
+    (["fleet", "crowd.csv"], "refused", b"refused,1,101,201\n"),
+    (["fleet", "/dev/zero"], "refused", b"refused,1,2,4194305\n"),
+    (["solve", "fleet.csv"], "refused", b"refused,1,3,2\n"),
+    (["solve", "rare.csv"], "refused", b"refused,1,50,1\n"),
     (["solve", "gone.csv", "--method", "certificate"], "absent", b""),
     (["compare", "folder", "--method", "certificate"], "unread", b""),
     ([b"\xff"], "usage", USAGE),
@@ -141,6 +167,9 @@ PLACES = (
     (["reach", "two.csv", b"\xff"], "usage", USAGE),
     (["reach", "two.csv", "2,1"], "usage", USAGE),
     (["solve", "two.csv", "--method", "gauss"], "usage", USAGE),
+    (["fleet", "fleet.csv", b"\xff"], "usage", USAGE),
+    (["fleet", "fleet.csv", "--workers", "2"], "usage", USAGE),
+    (["fleet", "fleet.csv", "--method", "certificate"], "usage", USAGE),
 )
 
 
@@ -157,7 +186,7 @@ class Text:
 
 
 # The words before a long text, by the ending of its name.
-FRONTS = {".csv": ["solve"], ".toml": ["compare"], ".day": ["replay", "two.csv"]}
+FRONTS = {".csv": ["solve"], ".toml": ["compare"], ".day": ["replay", "two.csv"], ".fleet": ["fleet"]}
 TEXTS = (
     Text("lines of one letter.csv", b"refused,1,3,1\n", b"a\n"),
     Text("lines of one comma.csv", b"refused,1,7,50001\n", b",\n"),
@@ -186,6 +215,9 @@ TEXTS = (
     Text("calls from nowhere.day", b"refused,2,93,1\n", b"a", front=b"call,0,", end=b"\n"),
     Text("one row of letters.day", b"refused,2,92,1\n", b",a", front=b"call", end=b"\n", megabytes=MEGABYTES_OF_ONE_ROW),
     Text("an open quote.day", b"refused,2,92,1\n", b"a\n", front=b'"'),
+    Text("a byte too many.fleet", b"refused,1,2,4194305\n", b"a", size=MOST_BYTES + 1),
+    Text("crews.fleet", b"refused,1,7,50001\n", b"crews,A,2\n", front=b"version,3\n"),
+    Text("one name of crews.fleet", b"refused,1,6,2,2\n", b"a", front=b"version,3\ncrews,", end=b",2\n"),
     Text("a byte too many.toml", b"refused,0,63,4194305\n", b"#", size=MOST_BYTES + 1),
     Text("comments.toml", b"refused,0,60\n", b"#\n"),
     Text("open brackets.toml", b"refused,0,60\n", b"[", front=b"plans = "),

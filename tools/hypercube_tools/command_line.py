@@ -69,6 +69,8 @@ def add_plan(commands: "argparse._SubParsersAction[argparse.ArgumentParser]") ->
                          help="seconds that pass before a unit sets out, added to each travel time (default: 0)")
     command.add_argument("--in-order", action="store_true",
                          help="crews of one station go in the order of the table, instead of sharing its calls")
+    command.add_argument("--fleet", action="store_true",
+                         help="each row of units is a station of a fleet, for the command fleet (version 3 of the text)")
     command.add_argument("--round", action="store_true", help="round rates that no period makes whole")
 
 
@@ -117,8 +119,8 @@ def add_many(commands: "argparse._SubParsersAction[argparse.ArgumentParser]") ->
 def plan(asked: argparse.Namespace) -> None:
     from .plan import Choices, make_plan
     from .town import read_town
-    made = make_plan(read_town(asked.tables, asked.per),
-                     Choices(asked.line, asked.per, asked.turn_out, asked.in_order, asked.round))
+    made = make_plan(read_town(asked.tables, asked.per, asked.fleet),
+                     Choices(asked.line, asked.per, asked.turn_out, asked.in_order, asked.round, asked.fleet))
     write(made.text, asked.output)
     for remark in made.remarks:
         say(remark)

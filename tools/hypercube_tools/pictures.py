@@ -58,7 +58,8 @@ def rows_of(table: pandas.DataFrame, measure: str) -> pandas.DataFrame:
 
 def workloads(table: pandas.DataFrame) -> Figure:
     """A bar for each unit, up to the low end of its workload, and the interval of the true value from there on. The mean of all
-    units is drawn if it is known as closely as the picture can show."""
+    units is drawn if it is known as closely as the picture can show. Of a fleet each bar is of a station's crews, and the mean
+    that of all crews."""
     rows = rows_of(table, "workload").iloc[::-1]
     figure, axes = one_panel(7, 1.2 + 0.36 * len(rows))
     axes.barh(rows["subject"], rows["low"], color=BLUE, height=0.62)
@@ -68,8 +69,10 @@ def workloads(table: pandas.DataFrame) -> Figure:
                       fontsize=9, bbox=PAPER)
     label = "Share of time busy"
     if (rows["high"] - rows["low"]).max() < NARROW:
-        axes.axvline(middle(rows).mean(), color=DARK, linewidth=1, linestyle="--", zorder=0.5)
-        label += " (dashed: the mean of all units)"
+        crews = table[(table["measure"] == "crews") & (table["subject"] != "")].set_index("subject")["low"]
+        mean = numpy.average(middle(rows), weights=rows["subject"].map(crews).fillna(1))
+        axes.axvline(mean, color=DARK, linewidth=1, linestyle="--", zorder=0.5)
+        label += f" (dashed: the mean of all {'units' if crews.empty else 'crews'})"
     axes.set_xlim(0, min(1.2, max(0.2, 1.2 * rows["high"].max())))
     axes.set_ylim(-0.7, len(rows) - 0.3)
     axes.xaxis.set_major_formatter(PERCENT)

@@ -4,6 +4,7 @@ import io
 import math
 from dataclasses import dataclass
 from fractions import Fraction
+from itertools import accumulate
 from typing import Iterable, Sequence
 
 from .faults import Fault, Faults
@@ -16,12 +17,13 @@ MOST_POINT = 1_000_000
 @dataclass(frozen=True)
 class Choices:
     """What the tables leave open: the line, the period of their rates in seconds, the seconds that pass before a unit sets out,
-    whether crews of a station go in their order, and whether rates may be rounded."""
+    whether crews of a station go in their order, whether rates may be rounded, and whether the units are stations of a fleet."""
     line: str
     period: int
     turn_out: int
     in_order: bool
     may_round: bool
+    as_fleet: bool = False
 
 
 @dataclass(frozen=True)
@@ -33,14 +35,15 @@ class Made:
 
 def make_plan(town: Town, choices: Choices) -> Made:
     check_places(town)
-    rates = whole_rates([atom.calls for atom in town.atoms], [unit.rate for unit in town.units],
+    rates = whole_rates([atom.calls for atom in town.atoms], [unit.rate for unit in town.units for _ in range(unit.crews)],
                         choices.period, choices.may_round)
     if choices.line == "infinite" and sum(rates.calls) >= sum(rates.service):
         raise Fault(f"on the infinite line calls have to be fewer than service, but there are {sum(rates.calls)} calls and "
                     f"service for {sum(rates.service)} in {rates.period} seconds. Add units, or take the line zero")
     points, origin = whole_points(town.atoms)
-    lists = [groups_of(town, atom, choices.in_order) for atom in town.atoms]
-    records = [*settings(choices.line, rates, lists), *fleet(town, rates, points, lists), *list_records(town, lists),
+    lists = [groups_of(town, atom, choices.in_order or choices.as_fleet) for atom in town.atoms]
+    version = 3 if choices.as_fleet else version_of(lists)
+    records = [*settings(choices.line, rates, version), *fleet(town, rates, points, lists), *list_records(town, lists),
                *travel_records(town, choices.turn_out)]
     remarks = [period_remark(rates, choices.period), *round_remark(rates), *origin_remark(origin), *seconds_remark(town)]
     return Made(plan_text(records), remarks)
@@ -70,14 +73,19 @@ def check_places(town: Town) -> None:
     faults.raise_any()
 
 
-def settings(line: str, rates: WholeRates, lists: list[list[list[Unit]]]) -> list[list[object]]:
-    """The first records. Groups of more than one unit need version 2."""
-    version = 2 if any(len(group) > 1 for groups in lists for group in groups) else 1
+def version_of(lists: list[list[list[Unit]]]) -> int:
+    """Groups of more than one unit need version 2."""
+    return 2 if any(len(group) > 1 for groups in lists for group in groups) else 1
+
+
+def settings(line: str, rates: WholeRates, version: int) -> list[list[object]]:
     return [["version", version], ["line", line], ["period", rates.period]]
 
 
 def fleet(town: Town, rates: WholeRates, points: list[tuple[int, int]], lists: list[list[list[Unit]]]) -> list[list[object]]:
-    units = [["unit", unit.name, rate] for unit, rate in zip(town.units, rates.service)]
+    first = accumulate((unit.crews for unit in town.units), initial=0)
+    units = [["unit", unit.name, rates.service[crew]] for unit, crew in zip(town.units, first)]
+    units += [["crews", unit.name, unit.crews] for unit in town.units if unit.crews > 1]
     atoms = [["atom", atom.name, rate, *point, district_of(town, atom, groups)]
              for atom, rate, point, groups in zip(town.atoms, rates.calls, points, lists)]
     first_at = {atom.place: atom.name for atom in reversed(town.atoms)}

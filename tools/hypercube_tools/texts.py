@@ -1,4 +1,5 @@
-"""What the program writes, as a tidy table: reports, comparisons, and the texts of finite, pairs, sweep, replay and reach."""
+"""What the program writes, as a tidy table: reports, comparisons, and the texts of finite, pairs, sweep, replay, reach and
+fleet."""
 import csv
 import io
 from dataclasses import astuple, dataclass, fields
@@ -35,6 +36,8 @@ SOLVED: Measures = {
     "dispatch": (2, SHARE), "interdistrict": (0, SHARE), "interdistrict-unit": (1, SHARE), "interdistrict-district": (1, SHARE),
     "travel": (0, SECONDS), "travel-atom": (1, SECONDS), "travel-unit": (1, SECONDS), "travel-district": (1, SECONDS),
 }
+# Of a fleet the subjects are stations.
+FLEET: Measures = {name.replace("-unit", "-station"): kind for name, kind in SOLVED.items()} | {"full": (1, SHARE)}
 FINITE: Measures = {
     "lost": (0, SHARE), "delayed": (0, SHARE), "busy": (0, SHARE), "queue": (0, CALLS), "wait": (0, SECONDS),
     "workload": (1, SHARE),
@@ -45,7 +48,8 @@ REACHED = {"region": 0, "all": 0, "at-once": 0, "atom": 1, "unit": 1, "district"
 # Of each row with one whole number: its unit.
 COUNTS = {
     "units": COUNT, "atoms": COUNT, "plans": COUNT, "places": COUNT, "percent": "percent", "calls": PER_PERIOD,
-    "service": PER_PERIOD, "dropped": COUNT, "answered": CALLS, "lost": CALLS, "waiting": CALLS,
+    "service": PER_PERIOD, "dropped": COUNT, "answered": CALLS, "lost": CALLS, "waiting": CALLS, "period": SECONDS,
+    "stations": COUNT, "crews": COUNT, "states": COUNT,
 }
 
 
@@ -96,6 +100,18 @@ def report_row(row: list[str], before: list[Value]) -> list[Value]:
             turn = next_turn(before, "preference", atom)
             return [counted("preference", turn, ORDER, atom, unit) for unit in units]
     return of_measures(SOLVED, row) if row[0] in SOLVED else of_count(row)
+
+
+def fleet_row(row: list[str], _before: list[Value]) -> list[Value]:
+    """A row `crews` with a station has that station as its subject; one without speaks of all crews."""
+    match row:
+        case ["line", word]:
+            return [Value("line", word=word)]
+        case ["prefer", atom, *stations]:
+            return [counted("preference", str(place), ORDER, atom, station) for place, station in enumerate(stations, 1)]
+        case ["crews", station, text]:
+            return [counted("crews", text, COUNT, station)]
+    return of_measures(FLEET, row) if row[0] in FLEET else of_count(row)
 
 
 def finite_row(row: list[str], _before: list[Value]) -> list[Value]:
@@ -162,7 +178,7 @@ def reach_row(row: list[str], before: list[Value]) -> list[Value]:
 Reader = Callable[[list[str], list[Value]], list[Value]]
 READERS: dict[str, Reader] = {
     "report": report_row, "finite": finite_row, "pairs": pairs_row, "study": comparison_row, "sweep": sweep_row,
-    "replay": replay_row, "reach": reach_row,
+    "replay": replay_row, "reach": reach_row, "fleet": fleet_row,
 }
 
 

@@ -1,4 +1,5 @@
 """A town as three tables give it: its units, its atoms, and the travel times between its places."""
+import math
 import pathlib
 import re
 from dataclasses import dataclass
@@ -8,6 +9,8 @@ from .faults import Fault, Faults
 from .sheets import Cell, Sheet, read_sheets
 
 MOST_UNITS = 12
+MOST_CREWS = 200
+MOST_STATES = 65_536
 MOST_ATOMS = 200
 MOST_TRAVEL = 100_000
 MOST_NAME = 32
@@ -18,12 +21,14 @@ SECONDS_IN = {"seconds": 1, "minutes": 60}
 
 @dataclass(frozen=True)
 class Unit:
-    """A unit, its service rate per period of the tables, the place where it waits, its class, and its row in the tables."""
+    """A unit, its service rate per period of the tables, the place where it waits, its class, and its row in the tables; and of
+    how many crews it is a station, if it is one."""
     name: str
     rate: Fraction
     station: str
     kind: str
     row: str
+    crews: int = 1
 
 
 @dataclass(frozen=True)
@@ -95,39 +100,56 @@ def decimal(cell: Cell, faults: Faults, form: re.Pattern[str] = DECIMAL) -> Frac
     return None
 
 
-def read_town(path: pathlib.Path, period: int) -> Town:
-    """The town of the sheets `units`, `atoms` and `travel`. All rates are per `period` seconds."""
+def read_town(path: pathlib.Path, period: int, as_fleet: bool = False) -> Town:
+    """The town of the sheets `units`, `atoms` and `travel`. All rates are per `period` seconds. Of a fleet, a row of `units` is
+    one station, however many crews it has."""
     sheets = read_sheets(path)
     absent = [name for name in ("units", "atoms", "travel") if name not in sheets]
     if absent:
         raise Fault(*(f"{path}: there is no table {name}" for name in absent))
     faults = Faults()
-    town = Town(units_of(sheets["units"], period, faults), atoms_of(sheets["atoms"], faults),
+    town = Town(units_of(sheets["units"], period, as_fleet, faults), atoms_of(sheets["atoms"], faults),
                 travel_of(sheets["travel"], faults))
     faults.raise_any()
     return town
 
 
-def units_of(sheet: Sheet, period: int, faults: Faults) -> list[Unit]:
-    """The units of a sheet. A row that says so many crews gives as many units, numbered from 1."""
+def units_of(sheet: Sheet, period: int, as_fleet: bool, faults: Faults) -> list[Unit]:
+    """The units of a sheet. A row that says so many crews gives as many units, numbered from 1, or of a fleet one station."""
     columns = Columns(sheet, ("unit", "station"), ("rate", "minutes", "crews", "class", "note"), faults)
-    units = [unit for row in sheet.full_rows() for unit in units_of_row(columns, row, period)]
+    units = [unit for row in sheet.full_rows() for unit in units_of_row(columns, row, period, as_fleet)]
     if not 1 <= len(units) <= MOST_UNITS:
-        faults.add(f"{sheet.place}: there are {len(units)} units. A plan has 1 to {MOST_UNITS}")
+        limit = "stations. A fleet" if as_fleet else "units. A plan"
+        faults.add(f"{sheet.place}: there are {len(units)} {limit} has 1 to {MOST_UNITS}")
+    if as_fleet:
+        check_crews(sheet, units, faults)
     check_differ([Cell(unit.name, unit.row) for unit in units], faults)
     return units
 
 
-def units_of_row(columns: Columns, row: int, period: int) -> list[Unit]:
+def check_crews(sheet: Sheet, units: list[Unit], faults: Faults) -> None:
+    """The crews of a fleet are within its limits."""
+    crews, states = sum(unit.crews for unit in units), math.prod(unit.crews + 1 for unit in units)
+    if crews > MOST_CREWS:
+        faults.add(f"{sheet.place}: there are {crews} crews. A fleet has at most {MOST_CREWS}")
+    if states > MOST_STATES:
+        faults.add(f"{sheet.place}: there are {states} states, which are the product, over the stations, of their crews and one. "
+                   f"A fleet has at most {MOST_STATES}. Join stations that lie close together, or solve a part of the region")
+
+
+def units_of_row(columns: Columns, row: int, period: int, as_fleet: bool) -> list[Unit]:
     name, station = columns.name(row, "unit"), columns.name(row, "station")
     rate, kind = service_rate(columns, row, period), columns.cell(row, "class").text
     cell = columns.cell(row, "crews")
     crews = decimal(cell, columns.faults) if cell.text else Fraction(1)
     if crews is None:
         return []
-    if crews.denominator != 1 or not 1 <= crews <= MOST_UNITS:
-        columns.faults.add(f"{cell.place}: a station has 1 to {MOST_UNITS} crews")
+    most = MOST_CREWS if as_fleet else MOST_UNITS
+    if crews.denominator != 1 or not 1 <= crews <= most:
+        columns.faults.add(f"{cell.place}: a station has 1 to {most} crews")
         return []
+    if as_fleet:
+        return [Unit(name, rate, station, kind, columns.sheet.row_place(row), int(crews))]
     names = [name] if crews == 1 else [f"{name} {number}" for number in range(1, int(crews) + 1)]
     if len(names[-1].encode()) > MOST_NAME:
         columns.faults.add(f'{cell.place}: "{names[-1]}" has more than 32 bytes. Shorten the name of the unit')

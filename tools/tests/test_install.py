@@ -10,7 +10,7 @@ PAGE = TOP / "share/man/man1/hypercube.1"
 COMPLETION = TOP / "share/bash-completion/completions/hypercube"
 VILLAGE = TOP / "examples" / "village"
 # Commands that the usage row does not name, since its bytes stay.
-UNLISTED = ("reach",)
+UNLISTED = ("reach", "fleet")
 
 
 @pytest.fixture(scope="module")
@@ -94,6 +94,9 @@ def test_completion_knows_the_commands(usage: str) -> None:
     (("replay", "x.csv", "examples/vill"), ["examples/village.csv"]),
     (("reach", "examples/vill"), ["examples/village.csv"]),
     (("reach", "x.csv", "4"), ["480"]),
+    (("fleet", "examples/vill"), ["examples/village.csv"]),
+    (("fleet", "--summary", "examples/vill"), ["examples/village.csv"]),
+    (("fleet", "x.csv", "--w"), ["--width"]),
     (("solve", "x.csv", "--method", "c"), ["certificate"]),
     (("compare", "x.toml", "--m"), ["--method"]),
     (("sweep", "x.csv", "--m"), [""]),

@@ -8,7 +8,7 @@ from hypercube_tools import frame, pictures
 from hypercube_tools.command_line import main
 from hypercube_tools.faults import Fault
 from hypercube_tools.maps import map_of
-from test_table import COMPARISON, REACH, REPORT, SWEEP
+from test_table import COMPARISON, FLEET, REACH, REPORT, SWEEP
 
 CITY = TOP / "examples" / "city-of-eight.csv"
 MAP = """unit,A,3
@@ -52,6 +52,15 @@ def test_answers_of_an_atom_without_calls() -> None:
     silent = REPORT.replace("dispatch,A,Q,0.099999,0.100001", "dispatch,A,Q,0.000000,0.000000")
     silent = silent.replace("dispatch,B,Q,0.399999,0.400001", "dispatch,B,Q,0.000000,0.000000")
     assert texts_of(pictures.answers(frame(silent))) == {"80%", "20%"}
+
+
+def test_fleet() -> None:
+    """A bar for each station, by the workload of its crews; and of each atom's calls, the share of each station."""
+    figure = pictures.workloads(frame(FLEET))
+    assert texts_of(figure) == {"31.5%", "34.8%"}
+    assert [label.get_text() for label in figure.axes[0].get_yticklabels()] == ["East", "West"]
+    assert figure.axes[0].lines[0].get_xdata()[0] == pytest.approx((3 * 0.3146415 + 2 * 0.3475475) / 5)
+    assert texts_of(pictures.answers(frame(FLEET))) == {"95%", "5%", "15%", "85%"}
 
 
 def test_travel() -> None:

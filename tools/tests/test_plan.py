@@ -77,6 +77,37 @@ def test_choices(tmp_path: pathlib.Path) -> None:
     assert "line,infinite" in plan_of(tables, line="infinite").splitlines()
 
 
+def fleet_of(tables: pathlib.Path, line: str = "zero") -> list[str]:
+    return make_plan(read_town(tables, 3600, as_fleet=True), Choices(line, 3600, 0, False, False, as_fleet=True)).text.splitlines()
+
+
+def test_fleet(tmp_path: pathlib.Path) -> None:
+    """A row of units is one station, with a record of its crews if it has several."""
+    rows = fleet_of(folder_of(tmp_path, units="unit,station,rate,crews\nA,P,3,14\nB,Q,2.5,\n"))
+    assert rows[0] == "version,3"
+    assert [row for row in rows if row.split(",")[0] in ("unit", "crews", "at", "prefer")] == [
+        "unit,A,60", "unit,B,50", "crews,A,14", "at,A,P,1000", "at,B,Q,1000", "prefer,P,A,B", "prefer,Q,B,A"]
+
+
+def test_service_of_a_fleet_is_that_of_all_crews(tmp_path: pathlib.Path) -> None:
+    tables = folder_of(tmp_path, units="unit,station,rate,crews\nA,P,3,2\nB,Q,2.5,1\n", atoms="atom,calls\nP,4\nQ,4\n")
+    assert "line,infinite" in fleet_of(tables, "infinite")
+    (tmp_path / "atoms.csv").write_text("atom,calls\nP,4\nQ,4.5\n")
+    with pytest.raises(Fault, match="Add units, or take the line zero"):
+        fleet_of(tables, "infinite")
+
+
+@pytest.mark.parametrize("rows, message", [
+    ("A,P,1,101\nB,Q,1,100\n", "there are 201 crews"),
+    ("A,P,1,70\nB,Q,1,70\nC,P,1,20\n", "there are 105861 states"),
+    ("A,P,1,201\n", "a station has 1 to 200 crews"),
+    ("".join(f"S{number},P,1,2\n" for number in range(13)), "there are 13 stations. A fleet has 1 to 12"),
+])
+def test_faults_of_a_fleet(tmp_path: pathlib.Path, rows: str, message: str) -> None:
+    with pytest.raises(Fault, match=message):
+        fleet_of(folder_of(tmp_path, units="unit,station,rate,crews\n" + rows))
+
+
 def test_rates_that_no_period_makes_whole(tmp_path: pathlib.Path) -> None:
     tables = folder_of(tmp_path, units="unit,station,minutes\nA,P,20.0001\nB,Q,23.0007\n")
     with pytest.raises(Fault, match="--round"):

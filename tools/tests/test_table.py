@@ -103,8 +103,49 @@ district,A,0.199999,0.200001,0.899999,0.900001
 district,B,none
 end
 """
+FLEET = """fleet,1
+line,infinite
+period,86400
+calls,15
+service,46
+stations,2
+crews,5
+states,12
+crews,West,3
+crews,East,2
+prefer,P,West,East
+prefer,Q,East,West
+prefer,R,East,West
+delay,0.028068,0.028069
+queue,0.013581,0.013582
+wait,78.229,78.230
+workload,West,0.314641,0.314642
+workload,East,0.347547,0.347548
+full,West,0.070701,0.070702
+full,East,0.161563,0.161564
+dispatch,West,P,0.568562,0.568563
+dispatch,West,Q,0.060720,0.060721
+dispatch,West,R,0.000000,0.000000
+dispatch,East,P,0.031437,0.031438
+dispatch,East,Q,0.339279,0.339280
+dispatch,East,R,0.000000,0.000000
+interdistrict,0.092158,0.092159
+interdistrict-station,West,0.096491,0.096492
+interdistrict-station,East,0.084802,0.084803
+interdistrict-district,West,0.052396,0.052397
+interdistrict-district,East,0.151800,0.151801
+travel,107.085,107.086
+travel-atom,P,112.495,112.496
+travel-atom,Q,98.970,98.971
+travel-atom,R,151.509,151.510
+travel-station,West,117.483,117.484
+travel-station,East,89.436,89.437
+travel-district,West,112.495,112.496
+travel-district,East,98.970,98.971
+end
+"""
 TEXTS = {"report": REPORT, "comparison": COMPARISON, "finite": FINITE, "pairs": PAIRS, "sweep": SWEEP, "replay": REPLAY,
-         "reach": REACH}
+         "reach": REACH, "fleet": FLEET}
 
 
 @pytest.mark.parametrize("kind, row", [
@@ -142,13 +183,23 @@ TEXTS = {"report": REPORT, "comparison": COMPARISON, "finite": FINITE, "pairs": 
     ("reach", "unit,A,60,0.300000,0.300001,share,"),
     ("reach", "unit,A,480,1.000000,1.000000,share,"),
     ("reach", "district,B,,,,share,none"),
+    ("fleet", "line,,,,,,infinite"),
+    ("fleet", "period,,,86400,86400,seconds,"),
+    ("fleet", "stations,,,2,2,count,"),
+    ("fleet", "crews,,,5,5,count,"),
+    ("fleet", "crews,East,,2,2,count,"),
+    ("fleet", "preference,Q,West,2,2,order,"),
+    ("fleet", "wait,,,78.229,78.230,seconds,"),
+    ("fleet", "full,East,,0.161563,0.161564,share,"),
+    ("fleet", "dispatch,East,P,0.031437,0.031438,share,"),
+    ("fleet", "travel-station,West,,117.483,117.484,seconds,"),
 ])
 def test_row(kind: str, row: str) -> None:
     assert row in table_text(values(TEXTS[kind])).splitlines()
 
 
 @pytest.mark.parametrize("kind, rows", [("report", 27), ("comparison", 7), ("finite", 7), ("pairs", 6), ("sweep", 4),
-                                        ("replay", 18), ("reach", 19)])
+                                        ("replay", 18), ("reach", 19), ("fleet", 41)])
 def test_number_of_rows(kind: str, rows: int) -> None:
     assert len(values(TEXTS[kind])) == rows
 
