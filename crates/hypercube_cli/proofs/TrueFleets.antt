@@ -54,7 +54,7 @@ wide_reported s widths summary items ended m lo hi label (Ok ending) same ends e
 wide_reported s widths summary items ended m lo hi label (Err stopped) same ends exact labelled is = tt
 
 not_done : (ending : Ending) (label : List ℕ) (m : FleetMeasure) (lo hi : ℕ) → ending.outcome ≡ outcome.FleetTooWide m lo hi
-    → ending.outcome ≡ outcome.Done → Void {0}
+    → ending.outcome ≡ outcome.Done → ⊥
 not_done ending label m lo hi wide done = cc
 
 -- an ending with a measure that is too wide claims nothing
