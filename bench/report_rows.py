@@ -171,6 +171,9 @@ def intervals(report):
     found = {}
     for line in report.splitlines():
         row = line.split(",")
+        if row[0] in ("prefer", "group"):
+            # A name may look like an end.
+            continue
         if row[-1] == "none":
             found[tuple(row[:-1])] = None
         elif "." in row[-1]:
